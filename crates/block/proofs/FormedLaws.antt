@@ -1,0 +1,45 @@
+-- A well-formed block: what it says of its entries, and when it is one.
+use Prim.Native.Nat.{ℕ}
+use mathlib.Core.Path.{_≡_, refl}
+use mathlib.Core.List.{List, [], _∷_, _++_}
+use mathlib.Core.Bool.{Bool, true}
+use mathlib.Core.Option.{some, Option·some-inj}
+use lib.Dec.{T}
+use Rattle.codec.proofs.Prelude.{both, true-is}
+use Rattle.codec.proofs.MaybeLaws.{getting, giving, gets, gives}
+use Rattle.block.specs.Block.{Pair, lastKeyOf, Entry, pairsOf, Block, block}
+use Rattle.block.specs.Formed.{Kind, entryFits, all, enough, wellFormed, rises}
+
+pub record FormedRead (kind : Kind) (s : List ℕ) (es : List Entry) : Type 0 where
+  pub whole : Block
+  pub reads : block s ≡ some whole
+  pub entries : whole .entries ≡ es
+  pub holds : T (enough kind (pairsOf es))
+  pub fits : T (all (entryFits kind) (pairsOf es))
+
+pub formed-read : (kind : Kind) (s : List ℕ) {es : List Entry} → wellFormed kind s ≡ some es → FormedRead kind s es
+unfolding wellFormed
+formed-read kind s {es} p =
+    getting _ _ p λ b reads p.
+    giving _ _ p λ holds p.
+    giving _ _ p λ fits p.
+    let same = Option·some-inj .0 p in
+    record { whole = b; reads = reads; entries = same; holds = rw same at holds; fits = rw same at fits }
+
+pub formed-some : (kind : Kind) (s : List ℕ) (b : Block) → block s ≡ some b → enough kind (pairsOf (b .entries)) ≡ true
+    → all (entryFits kind) (pairsOf (b .entries)) ≡ true → wellFormed kind s ≡ some (b .entries)
+unfolding wellFormed
+formed-some kind s b e h f = gets _ _ e (gives _ _ (true-is h) (gives _ _ (true-is f) refl))
+
+-- ---- the tests, one entry more at a time
+
+pub all-more : (f : Pair → Bool) (ps : List Pair) (q : Pair) → all f ps ≡ true → f q ≡ true → all f (ps ++ (q ∷ [])) ≡ true
+unfolding all
+all-more f [] q h e = rw e
+all-more f (p ∷ ps) q h e = let (h1, h2) = both (f p) (all f ps) h in rw h1 (all-more f ps q h2 e)
+
+pub rises-more : (less : List ℕ → List ℕ → Bool) (p : Pair) (ps : List Pair) (q : Pair) → rises less (p ∷ ps) ≡ true
+    → less (lastKeyOf [] (p ∷ ps)) (q .key) ≡ true → rises less ((p ∷ ps) ++ (q ∷ [])) ≡ true
+unfolding rises lastKeyOf
+rises-more less p [] q h e = rw e
+rises-more less p (r ∷ ps) q h e = let (h1, h2) = both (less (p .key) (r .key)) (rises less (r ∷ ps)) h in rw h1 (rises-more less r ps q h2 e)

@@ -1,0 +1,4 @@
+pub mod OrderLaws
+pub mod KeyLaws
+pub mod SeparatorLaws
+pub mod StartLaws

@@ -1,0 +1,353 @@
+-- What is accepted comes to good chunks; so a finished table passes, and reads plainly as its additions.
+use Prim.Native.Nat.{ℕ, _^_, _≤_, _<_}
+use mathlib.Core.Path.{_≡_, refl, sym, ap, _∙_}
+use mathlib.Core.Logic.{_⊎_, inl, inr}
+use mathlib.Core.List.{List, [], _∷_, _++_, map, map-append, append-assoc, append-nil}
+use mathlib.Core.Bool.{true, false, _&&_, _||_}
+use mathlib.Core.Option.{Option, none, some}
+use native.Mathlib.Omega.{arith}
+use native.Mathlib.Nat.{le-trans}
+use lib.Dec.{ltb, leb, isEq}
+use lib.ListN.{length, length-append}
+use borrow.Author.Tests.{le-leb, ltb-true, leb-true}
+use Rattle.codec.proofs.Prelude.{test, false-true, both, is-true, true-is, or-true}
+use Rattle.keys.specs.Order.{byBytes, bytesBelow, userOf, internal, pointOf, byPoint, below, separator}
+use Rattle.keys.proofs.OrderLaws.{Less, point-same, below-less, less-below, upTo-notBelow, below-le, below-trans, below-itself}
+use Rattle.keys.proofs.KeyLaws.{internal-length}
+use Rattle.keys.proofs.SeparatorLaws.{Separates, separates, separator-length}
+use Rattle.block.specs.Block.{Pair, lastKeyOf}
+use Rattle.block.specs.Formed.{dataBlock, within, entryFits, all, enough, rises}
+use Rattle.block.proofs.FormedLaws.{all-more, rises-more}
+use Rattle.block.proofs.BuildLaws.{none-long}
+use Rattle.table.specs.Checked.{pass, _>>=_}
+use Rattle.table.specs.Options.{Options, filteringFits, Addition, additionFits, optionsFit, tableLimit}
+use Rattle.table.specs.Table
+use Rattle.table.specs.Table.{Edge}
+use Rattle.table.specs.Build.{Chunk, Building, keyOf, pairOf, chunkBytes, endOf, indexPairs, table, begin, lastKey, close, closeBefore, add, closeLast, finish, above, accept, acceptAll}
+use Rattle.table.specs.Promise.{roundTrip, sameBytesSameAdditions}
+use Rattle.table.proofs.CheckedLaws.{passing, asking, pass-same}
+use Rattle.table.proofs.StandLaws.{follows-tells}
+use Rattle.table.proofs.StepLaws.{empty-small, last-none, last-some}
+use Rattle.table.proofs.PlainLaws.{Fit, AllFit, ChunksFit, allOf, table-plain}
+use Rattle.table.proofs.LetsLaws.{pairs}
+use Rattle.table.proofs.CheckLaws.{edge, GoodChunk, Good, table-passes}
+
+-- ---- the index of good chunks rises
+below-last : (k : List ℕ) (p : Pair) (ps : List Pair) → below k (p .key) ≡ true → rises below (p ∷ ps) ≡ true
+    → below k (lastKeyOf [] (p ∷ ps)) ≡ true
+unfolding rises lastKeyOf
+below-last k p [] h r = h
+below-last k p (q ∷ ps) h r = let (r1, r2) = both (below (p .key) (q .key)) (rises below (q ∷ ps)) r in below-last k q ps (below-trans k (p .key) (q .key) h r1) r2
+
+edge-below : (e : Edge) (c : Chunk) → GoodChunk (some e) c → below (e .indexKey) (c .key) ≡ true
+unfolding Table.firstFollows
+edge-below e c g = go (pairs c) (g .follows) (g .rising) (g .indexed)
+  where
+    go : (ps : List Pair) → Table.firstFollows (some e) ps ≡ true → rises below ps ≡ true → below (c .key) (lastKeyOf [] ps) ≡ false
+        → below (e .indexKey) (c .key) ≡ true
+    go [] f r i = absurd (false-true f)
+    go (p ∷ ps) f r i =
+        below-le (e .indexKey) (lastKeyOf [] (p ∷ ps)) (c .key) (below-last (e .indexKey) p ps (less-below (e .indexKey) (p .key) (follows-tells e (p .key) (true-is f) .above)) r) i
+
+index-rises : (o : Options) (before : Option Edge) (at : ℕ) (cs : List Chunk) → Good before cs → rises below (indexPairs o at cs) ≡ true
+unfolding indexPairs rises
+index-rises o before at [] g = refl
+index-rises o before at (c ∷ []) g = refl
+index-rises o before at (c ∷ d ∷ cs) g = rw (edge-below (edge c) d (g .1 .0)) (index-rises o (some (edge c)) (endOf o at c) (d ∷ cs) (g .1))
+
+-- ---- one more chunk
+abbrev pub lastEdge : Option Edge → List Chunk → Option Edge
+lastEdge before [] = before
+lastEdge before (c ∷ cs) = lastEdge (some (edge c)) cs
+
+good-snoc : (before : Option Edge) (cs : List Chunk) (c : Chunk) → Good before cs → GoodChunk (lastEdge before cs) c → Good before (cs ++ (c ∷ []))
+good-snoc before [] c g h = (h, tt)
+good-snoc before (d ∷ cs) c g h = (g .0, good-snoc (some (edge d)) cs c (g .1) h)
+
+edge-snoc : (before : Option Edge) (cs : List Chunk) (c : Chunk) → lastEdge before (cs ++ (c ∷ [])) ≡ some (edge c)
+edge-snoc before [] c = refl
+edge-snoc before (d ∷ cs) c = edge-snoc (some (edge d)) cs c
+
+fit-snoc : (cs : List Chunk) (c : Chunk) → ChunksFit cs → AllFit (c .additions) → ChunksFit (cs ++ (c ∷ []))
+fit-snoc [] c f g = (g, tt)
+fit-snoc (d ∷ cs) c f g = (f .0, fit-snoc cs c (f .1) g)
+
+all-snoc : (cs : List Chunk) (c : Chunk) → allOf (cs ++ (c ∷ [])) ≡ allOf cs ++ c .additions
+unfolding allOf
+all-snoc [] c = append-nil (c .additions)
+all-snoc (d ∷ cs) c = rw (all-snoc cs c) (simp append-assoc)
+
+-- ---- one more addition
+record FitParts (a : Addition) : Type 0 where
+  low : 1 ≤ length (a .word)
+  high : length (a .word) ≤ 1024
+  value : leb (length (a .value)) 32768 ≡ true
+  edition : a .edition < 2 ^ 56
+  kind : a .kind ≤ 1
+
+fit-parts : (a : Addition) → additionFits a ≡ true → FitParts a
+unfolding additionFits within
+fit-parts a h =
+    let w1 = leb 1 (length (a .word)) in
+    let w2 = leb (length (a .word)) 1024 in
+    let v = leb (length (a .value)) 32768 in
+    let e = ltb (a .edition) (2 ^ 56) in
+    let k = leb (a .kind) 1 in
+    let (w, r) = both (w1 && w2) (v && (e && k)) h in
+    let (hv, r2) = both v (e && k) r in
+    record {
+      low = leb-true 1 _ (both w1 w2 w .0);
+      high = leb-true _ 1024 (both w1 w2 w .1);
+      value = hv;
+      edition = ltb-true _ (2 ^ 56) (both e k r2 .0);
+      kind = leb-true _ 1 (both e k r2 .1);
+    }
+
+addition-entry : (a : Addition) → additionFits a ≡ true → (entryFits dataBlock) (pairOf a) ≡ true
+unfolding entryFits pairOf keyOf within
+addition-entry a h =
+    let p = fit-parts a h in
+    let k = internal (a .word) (a .edition) (a .kind) in
+    let l = internal-length (a .word) (a .edition) (a .kind) in
+    let lo : 9 ≤ length k = omega (arith, p .low) in
+    let hi : length k ≤ 1032 = omega (arith, p .high) in
+    rw (le-leb 9 (length k) lo, le-leb (length k) 1032 hi, p .value)
+
+addition-fit : (a : Addition) → additionFits a ≡ true → Fit a
+addition-fit a h = let p = fit-parts a h in record { edition = p .edition; kind = omega (arith, p .kind) }
+
+pub record Open (before : Option Edge) (xs : List Addition) : Type 0 where
+  pub fit : all (entryFits dataBlock) (map pairOf xs) ≡ true
+  follows : 0 < length xs → Table.firstFollows before (map pairOf xs) ≡ true
+  pub rising : rises below (map pairOf xs) ≡ true
+  small : AllFit xs
+
+all-fit-snoc : (xs : List Addition) (a : Addition) → AllFit xs → Fit a → AllFit (xs ++ (a ∷ []))
+all-fit-snoc [] a f g = (g, tt)
+all-fit-snoc (x ∷ xs) a f g = (f .0, all-fit-snoc xs a (f .1) g)
+
+open-more : (before : Option Edge) (xs : List Addition) (a : Addition) → Open before xs → additionFits a ≡ true → above a xs ≡ true
+    → (length xs ≡ 0 → Table.firstFollows before (pairOf a ∷ []) ≡ true) → Open before (xs ++ (a ∷ []))
+unfolding above lastKey all rises Table.firstFollows pairOf
+open-more before [] a o fits up first =
+    record { fit = rw (addition-entry a fits); follows = λ l. first refl; rising = refl; small = (addition-fit a fits, tt) }
+open-more before (x ∷ xs) a o fits up first =
+    record {
+      fit = rw (map-append pairOf xs (a ∷ [])) (all-more (entryFits dataBlock) (map pairOf (x ∷ xs)) (pairOf a) (o .fit) (addition-entry a fits));
+      follows = λ l. o .follows (omega arith);
+      rising = rw (map-append pairOf xs (a ∷ [])) (rises-more below (pairOf x) (map pairOf xs) (pairOf a) (o .rising) up);
+      small = all-fit-snoc (x ∷ xs) a (o .small) (addition-fit a fits);
+    }
+
+-- ---- a chunk closed: before an addition, and at the end
+non-empty : (xs : List Addition) → 0 < length xs → enough dataBlock (map pairOf xs) ≡ true
+unfolding enough
+non-empty [] l = absurd (omega arith)
+non-empty (x ∷ xs) l = refl
+
+close-good : (before : Option Edge) (xs : List Addition) (key : List ℕ) → Open before xs → 0 < length xs → below key (lastKey xs) ≡ false
+    → within 9 1032 (length key) ≡ true → GoodChunk before (record { additions = xs; key = key })
+unfolding lastKey
+close-good before xs key o l i w =
+    record {
+      fit = o .fit;
+      nonEmpty = non-empty xs l;
+      follows = o .follows l;
+      rising = o .rising;
+      indexed = i;
+      keyFits = w;
+    }
+
+-- the first addition after a chunk
+follows-sep : (xs : List Addition) (key : List ℕ) (a : Addition) → below (lastKey xs) (keyOf a) ≡ true → Separates (lastKey xs) (keyOf a) key
+    → Table.firstFollows (some (edge (record { additions = xs; key = key }))) (pairOf a ∷ []) ≡ true
+unfolding Table.firstFollows Table.follows lastKey pairOf bytesBelow
+follows-sep xs key a h s = rw (h, less-below key (keyOf a) (s .to)) (go (s .apart))
+  where
+    go : (key ≡ lastKeyOf [] (map pairOf xs)) ⊎ Less byBytes (userOf key) (userOf (keyOf a))
+        → isEq (byPoint (pointOf key) (pointOf (lastKeyOf [] (map pairOf xs)))) || bytesBelow (userOf key) (userOf (keyOf a)) ≡ true
+    go (inl e) = rw (e, point-same (pointOf (lastKeyOf [] (map pairOf xs))))
+    go (inr e) = rw (is-true (bytesBelow (userOf key) (userOf (keyOf a))) (e .is)) (simp or-true)
+
+-- what holds of a table while additions are accepted
+pub record Inv (b : Building) (done : List Addition) : Type 0 where
+  pub closedGood : Good none (b .closed)
+  closedFit : ChunksFit (b .closed)
+  pub isOpen : Open (lastEdge none (b .closed)) (b .openBlock)
+  start : length (b .openBlock) ≡ 0 → b .closed ≡ []
+  allDone : allOf (b .closed) ++ b .openBlock ≡ done
+
+pub inv-begin : Inv begin []
+unfolding begin all rises allOf
+inv-begin = record { closedGood = tt; closedFit = tt; isOpen = record { fit = refl; follows = λ l. absurd (omega arith); rising = refl; small = tt }; start = λ e. refl; allDone = refl }
+
+-- an empty block is 8 bytes
+empty-length : (o : Options) → length (chunkBytes o []) ≡ 8
+unfolding chunkBytes
+empty-length o = none-long (o .interval)
+
+pub within-parts : (lo hi x : ℕ) → within lo hi x ≡ true → (lo ≤ x) × (x ≤ hi)
+unfolding within
+within-parts lo hi x h = let (p, q) = both (leb lo x) (leb x hi) h in (leb-true lo x p, leb-true x hi q)
+
+within-is : (lo hi x : ℕ) → lo ≤ x → x ≤ hi → within lo hi x ≡ true
+unfolding within
+within-is lo hi x p q = rw (le-leb lo x p, le-leb x hi q)
+
+sep-length : (a b : List ℕ) → within 9 1032 (length a) ≡ true → within 9 1032 (length (separator a b)) ≡ true
+sep-length a b h =
+    let w = within-parts 9 1032 (length a) h in
+    let l = separator-length a b (w .0) (w .1) in
+    within-is 9 1032 (length (separator a b)) (l .0) (l .1)
+
+last-fit : (p : Pair) (ps : List Pair) → all (entryFits dataBlock) (p ∷ ps) ≡ true → within 9 1032 (length (lastKeyOf [] (p ∷ ps))) ≡ true
+unfolding all lastKeyOf entryFits
+last-fit p [] h =
+    let w = within 9 1032 (length (p .key)) in
+    let v = leb (length (p .value)) 32768 in
+    both w v (both (w && v) true h .0) .0
+last-fit p (q ∷ ps) h = last-fit q ps (both ((entryFits dataBlock) p) (all (entryFits dataBlock) (q ∷ ps)) h .1)
+
+-- what holds of additions that are some
+last-fits : (xs : List Addition) → 0 < length xs → all (entryFits dataBlock) (map pairOf xs) ≡ true → within 9 1032 (length (lastKey xs)) ≡ true
+unfolding lastKey
+last-fits [] l h = absurd (omega arith)
+last-fits (x ∷ xs) l h = last-fit (pairOf x) (map pairOf xs) h
+
+above-below : (a : Addition) (xs : List Addition) → 0 < length xs → above a xs ≡ true → below (lastKey xs) (keyOf a) ≡ true
+unfolding above
+above-below a [] l h = absurd (omega arith)
+above-below a (x ∷ xs) l h = h
+
+above-none : (a : Addition) → above a [] ≡ true
+unfolding above
+above-none a = refl
+
+open-some : (o : Options) (xs : List Addition) → 8 ≤ o .blockSize → o .blockSize < length (chunkBytes o xs) → 0 < length xs
+open-some o [] r h = absurd (omega (arith, empty-length o))
+open-some o (x ∷ xs) r h = omega arith
+
+first-none : (cs : List Chunk) (a : Addition) → cs ≡ [] → Table.firstFollows (lastEdge none cs) (pairOf a ∷ []) ≡ true
+unfolding Table.firstFollows Table.follows
+first-none [] a e = refl
+first-none (c ∷ cs) a e = let z : _≡_ {A = ℕ} 0 1 = cc in absurd (omega arith)
+
+no-open : (before : Option Edge) → Open before []
+unfolding all rises
+no-open before = record { fit = refl; follows = λ l. absurd (omega arith); rising = refl; small = tt }
+
+module _ (o : Options) (room-for-empty : 8 ≤ o .blockSize) where
+  add-inv : (b : Building) (done : List Addition) (a : Addition) → Inv b done → additionFits a ≡ true → above a (b .openBlock) ≡ true
+      → Inv (add o b a) (done ++ (a ∷ []))
+  unfolding add closeBefore close
+  add-inv b done a i fits up =
+      let xs = b .openBlock in
+      let cs = b .closed in
+      let key = separator (lastKey xs) (keyOf a) in
+      let c : Chunk = record { additions = xs; key = key } in
+      test (ltb (o .blockSize) (length (chunkBytes o xs)))
+      (λ t.
+      let full : 0 < length xs = open-some o xs room-for-empty (ltb-true (o .blockSize) (length (chunkBytes o xs)) t) in
+      let less = above-below a xs full up in
+      let sep = separates (lastKey xs) (keyOf a) (below-less (lastKey xs) (keyOf a) less) in
+      let good : GoodChunk (lastEdge none cs) c =
+      close-good (lastEdge none cs) xs key (i .isOpen) full (upTo-notBelow (lastKey xs) key (sep .from)) (sep-length (lastKey xs) (keyOf a) (last-fits xs full (i .isOpen .fit))) in
+      rw (closeBefore, t) (record {
+        closedGood = good-snoc none cs c (i .closedGood) good;
+        closedFit = fit-snoc cs c (i .closedFit) (i .isOpen .small);
+        isOpen = rw (edge-snoc none cs c) (open-more (some (edge c)) [] a (no-open (some (edge c))) fits (above-none a) (λ e. follows-sep xs key a less sep));
+        start = λ e. absurd (omega arith);
+        allDone = rw (all-snoc cs c, i .allDone);
+      }))
+      (λ t. rw (closeBefore, t) (record {
+        closedGood = i .closedGood;
+        closedFit = i .closedFit;
+        isOpen = open-more (lastEdge none cs) xs a (i .isOpen) fits up (λ e. first-none cs a (i .start e));
+        start = λ e. absurd (omega (arith, length-append xs (a ∷ [])));
+        allDone = rw (← i .allDone) (simp append-assoc);
+      }))
+
+record Finished (b : Building) (done : List Addition) : Type 0 where
+  good : Good none (closeLast b .closed)
+  fit : ChunksFit (closeLast b .closed)
+  all : allOf (closeLast b .closed) ≡ done
+
+finished : (b : Building) (done : List Addition) → Inv b done → Finished b done
+unfolding close
+finished b done i = go (b .openBlock) refl
+  where
+    go : (xs : List Addition) → b .openBlock ≡ xs → Finished b done
+    go [] e =
+        record {
+          good = rw (last-none b e) (i .closedGood);
+          fit = rw (last-none b e) (i .closedFit);
+          all = rw (last-none b e) (sym (append-nil (allOf (b .closed))) ∙ ap (λ (l : List Addition). allOf (b .closed) ++ l) (sym e) ∙ i .allDone);
+        }
+    go (x ∷ xs) e =
+        let c : Chunk = record { additions = b .openBlock; key = lastKey (b .openBlock) } in
+        let full : 0 < length (b .openBlock) = omega (arith, ap (λ (l : List Addition). length l) e) in
+        let good : GoodChunk (lastEdge none (b .closed)) c =
+        close-good (lastEdge none (b .closed)) (b .openBlock) (lastKey (b .openBlock)) (i .isOpen) full (below-itself (lastKey (b .openBlock)))
+        (last-fits (b .openBlock) full (i .isOpen .fit)) in
+        record {
+          good = rw (last-some b x xs e) (good-snoc none (b .closed) c (i .closedGood) good);
+          fit = rw (last-some b x xs e) (fit-snoc (b .closed) c (i .closedFit) (i .isOpen .small));
+          all = rw (last-some b x xs e, all-snoc (b .closed) c) (i .allDone);
+        }
+
+-- ---- what was accepted
+record Took (o : Options) (room : ℕ) (b : Building) (a : Addition) (c : Building) : Type 0 where
+  fits : additionFits a ≡ true
+  up : above a (b .openBlock) ≡ true
+  small : length (finish o (add o b a)) ≤ room
+  is : add o b a ≡ c
+
+took : (o : Options) (room : ℕ) (b : Building) (a : Addition) (c : Building) → accept o room b a ≡ pass c → Took o room b a c
+unfolding accept
+took o room b a c e =
+    asking 3 _ _ e λ f e.
+    asking 4 _ _ e λ u e.
+    asking 5 _ _ e λ s e.
+    record { fits = is-true _ f; up = is-true _ u; small = leb-true _ _ (is-true _ s); is = pass-same e }
+
+-- where the table was within a limit, and the room is
+module _ (o : Options) (room limit : ℕ) (room-for-empty : 8 ≤ o .blockSize) (most : room ≤ limit) where
+  pub accepted : (b : Building) (done more : List Addition) (c : Building) → Inv b done → length (finish o b) ≤ limit → acceptAll o room b more ≡ pass c
+      → Inv c (done ++ more) × (length (finish o c) ≤ limit)
+  unfolding acceptAll
+  accepted b done [] c i s e = let q : b ≡ c = pass-same e in (rw (append-nil, ← q) i, rw (← q) s)
+  accepted b done (a ∷ more) c i s e =
+      passing _ _ e λ d t e1.
+      let k = took o room b a d t in
+      let here : Inv d (done ++ (a ∷ [])) = rw (k .is) at (add-inv o room-for-empty b done a i (k .fits) (k .up)) in
+      let size : length (finish o d) ≤ limit = rw (k .is) at (le-trans (k .small) most) in
+      rw append-assoc at (accepted d (done ++ (a ∷ [])) more c here size e1)
+
+-- ---- the promise
+pub begin-is : (o : Options) → finish o begin ≡ table o []
+unfolding finish closeLast begin
+begin-is o = refl
+
+pub size-fits : (o : Options) → optionsFit o ≡ true → 8 ≤ o .blockSize
+unfolding optionsFit
+size-fits o h =
+    let i = within 1 1024 (o .interval) in
+    let b = within 8 65536 (o .blockSize) in
+    let f = filteringFits (o .filtering) in
+    within-parts 8 65536 (o .blockSize) (both b f (both i (b && f) h .1) .0) .0
+
+pub round-trip : roundTrip
+unfolding finish
+round-trip o room more t u =
+    let b = u .last in
+    let a = accepted o room tableLimit (size-fits o (is-true (optionsFit o) (u .fits))) (u .limited) begin [] more b inv-begin (rw begin-is (empty-small o)) (u .accepts) in
+    let f = finished b more (a .0) in
+    let cs = closeLast b .closed in
+    rw (← u .finishes) (
+      table-passes o cs (a .1) (f .good) (index-rises o none 0 cs (f .good)),
+      table-plain o cs (a .1) (f .fit) ∙ f .all,
+    )
+
+pub same-bytes-same-additions : sameBytesSameAdditions
+same-bytes-same-additions o o′ room room′ more more′ t u u′ =
+    sym (round-trip o room more t u .1) ∙ round-trip o′ room′ more′ t u′ .1

@@ -1,0 +1,13 @@
+pub mod CheckedLaws
+pub mod StandLaws
+pub mod SearchLaws
+pub mod PlaceLaws
+pub mod FrameLaws
+pub mod PlainLaws
+pub mod LetsLaws
+pub mod CheckLaws
+pub mod AcceptLaws
+pub mod StepLaws
+pub mod CountsLaws
+pub mod SufficeLaws
+pub mod Cases

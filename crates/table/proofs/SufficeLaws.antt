@@ -1,0 +1,174 @@
+-- What the runs hold, between calls and after finish, is no more than the finished table takes.
+use Prim.Native.Nat.{ℕ, _+_, _*_, _≤_}
+use mathlib.Core.Path.{_≡_, refl, ap}
+use mathlib.Core.List.{List, [], _∷_, _++_, map}
+use mathlib.Core.Bool.{true}
+use mathlib.Core.Option.{Option, none, some}
+use native.Mathlib.Nat.{le-refl}
+use native.Mathlib.Omega.{arith}
+use lib.Dec.{leb, eqb}
+use lib.ListN.{length, length-append, length-map}
+use Rattle.codec.specs.Bytes.{common}
+use Rattle.codec.proofs.Prelude.{test, both, is-true}
+use Rattle.keys.specs.Order.{below}
+use Rattle.keys.proofs.StartLaws.{above-fresh}
+use Rattle.block.specs.Block.{Pair, packed}
+use Rattle.block.specs.Count.{BlockCount, countOf, noEntries, countEntry, countSize}
+use Rattle.block.specs.Formed.{dataBlock, within, entryFits, all, rises}
+use Rattle.block.proofs.CountLaws.{count-none, count-zero, Fresh, packed-fours}
+use Rattle.filter.specs.Filter.{hash}
+use Rattle.filter.specs.FilterBlock.{Filters, noFilters, wait, filtersUpTo, lastFilter}
+use Rattle.filter.specs.FilterCount.{filterCountOf, countLast, filterBlockSize}
+use Rattle.filter.proofs.FilterBlockLaws.{starts-length}
+use Rattle.filter.proofs.FilterCountLaws.{count-upTo, count-last, Kept, upTo-kept, last-kept}
+use Rattle.table.specs.Options.{Options, indexInterval, optionsFit, Addition}
+use Rattle.table.specs.Table.{Edge}
+use Rattle.table.specs.Build.{Chunk, Building, pairOf, written, endOf, indexPairs, filtersOf, begin, lastKey, closeLast, finish}
+use Rattle.table.specs.Runs.{filtersNow, entriesOf, restartsIn, held, between, finished, FitsRoom}
+use Rattle.table.specs.Counts.{Counts, countsOf, countClose, finishedSize}
+use Rattle.table.specs.Sizes.{runsSuffice}
+use Rattle.table.proofs.FrameLaws.{framed-length}
+use Rattle.table.proofs.StepLaws.{last-none, last-some, empty-size}
+use Rattle.table.proofs.PlainLaws.{allOf}
+use Rattle.table.proofs.CheckLaws.{edge, Good}
+use Rattle.table.proofs.AcceptLaws.{Inv, inv-begin, within-parts, accepted, begin-is, size-fits}
+use Rattle.table.proofs.CountsLaws.{chunk-size, counts-close, counts-last, size-finished, no-open, last-filters}
+
+-- ---- each entry takes 4 bytes at least
+
+key-long : (p : Pair) → (entryFits dataBlock) p ≡ true → 9 ≤ length (p .key)
+unfolding entryFits
+key-long p h = within-parts 9 1032 (length (p .key)) (both (within 9 1032 (length (p .key))) (leb (length (p .value)) 32768) h .0) .0
+
+rising-fresh : (p : Pair) (ps : List Pair) → all (entryFits dataBlock) ps ≡ true → rises below (p ∷ ps) ≡ true → Fresh (p .key) ps
+unfolding all rises
+rising-fresh p [] fit up = tt
+rising-fresh p (q ∷ ps) fit up =
+    let (f, g) = both ((entryFits dataBlock) q) (all (entryFits dataBlock) ps) fit in
+    let (u, v) = both (below (p .key) (q .key)) (rises below (q ∷ ps)) up in
+    let l = key-long q f in
+    (above-fresh (p .key) (q .key) (omega arith) u, rising-fresh q ps g v)
+
+all-fresh : (ps : List Pair) → all (entryFits dataBlock) ps ≡ true → rises below ps ≡ true → Fresh [] ps
+unfolding all common
+all-fresh [] fit up = tt
+all-fresh (p ∷ ps) fit up =
+    let (f, g) = both ((entryFits dataBlock) p) (all (entryFits dataBlock) ps) fit in
+    let l = key-long p f in
+    (omega arith, rising-fresh p ps g up)
+
+module _ (o : Options) where
+  additions-fours : (xs : List Addition) → all (entryFits dataBlock) (map pairOf xs) ≡ true → rises below (map pairOf xs) ≡ true
+      → 4 * length xs ≤ countOf (o .interval) (map pairOf xs) .bytes
+  unfolding countOf
+  additions-fours xs fit up =
+      omega (arith, length-map xs pairOf, packed-fours (o .interval) (o .interval) [] (map pairOf xs) (all-fresh (map pairOf xs) fit up))
+
+  written-fours : (before : Option Edge) (cs : List Chunk) → Good before cs → 4 * length (allOf cs) ≤ length (written o cs)
+  unfolding written allOf countSize
+  written-fours before [] g = omega arith
+  written-fours before (c ∷ cs) g =
+      let here = additions-fours (c .additions) (g .0 .fit) (g .0 .rising) in
+      let size = chunk-size o (c .additions) in
+      let more = written-fours (some (edge c)) cs (g .1) in
+      simp (length-append, framed-length) (omega arith)
+
+  -- no more hashes wait than there are additions
+  waiting-most : (at : ℕ) (f : Filters) (cs : List Chunk) → length (filtersOf o at f cs .waiting) ≤ length (f .waiting) + length (allOf cs)
+  unfolding filtersOf allOf filterCountOf wait
+  waiting-most at f [] = omega arith
+  waiting-most at f (c ∷ cs) =
+      let hs = map (λ (a : Addition). hash (a .word)) (c .additions) in
+      let end = endOf o at c in
+      let kept : Kept (filterCountOf (o .filtering) (wait hs f)) (filterCountOf (o .filtering) (filtersUpTo end (wait hs f))) =
+      rw (count-upTo (o .filtering) end (wait hs f)) (upTo-kept (o .filtering) end (filterCountOf (o .filtering) (wait hs f))) in
+      let more = waiting-most end (filtersUpTo end (wait hs f)) cs in
+      let l = length-map (c .additions) (λ (a : Addition). hash (a .word)) in
+      omega (arith, kept .waiting, length-append (f .waiting) hs, length-append (c .additions) (allOf cs))
+
+  waiting-fours : (b : Building) (done : List Addition) → Inv b done
+      → (let c = countsOf o b in 4 * c .filters .waiting ≤ c .written + c .openBlock .bytes)
+  unfolding countsOf filterCountOf filtersNow wait noFilters
+  waiting-fours b done i =
+      let xs = b .openBlock in
+      let most = waiting-most 0 noFilters (b .closed) in
+      let closed = written-fours none (b .closed) (i .closedGood) in
+      let pending = additions-fours xs (i .isOpen .fit) (i .isOpen .rising) in
+      let l = length-map xs (λ (a : Addition). hash (a .word)) in
+      simp length-append (omega arith)
+
+  -- ---- the last block closed keeps all that was there
+
+  record Keeps (c d : Counts) : Type 0 where
+    block : c .written + c .openBlock .bytes + 4 * c .openBlock .restarts ≤ d .written
+    index : c .index .bytes ≤ d .index .bytes
+    indexRestarts : c .index .restarts ≤ d .index .restarts
+    filters : Kept (c .filters) (d .filters)
+
+  restarts-kept : (i : ℕ) (c : BlockCount) (key : List ℕ) (n : ℕ) → c .restarts ≤ countEntry i c key n .restarts
+  unfolding countEntry
+  restarts-kept i c key n = test (eqb (c .since) i) (λ t. rw (t, countEntry) (omega arith)) (λ t. rw (t, countEntry) (omega arith))
+
+  close-keeps : (key : List ℕ) (c : Counts) → Keeps c (countClose o key c)
+  unfolding countClose countSize
+  close-keeps key c =
+      record {
+        block = omega arith;
+        index = unfold countEntry in omega arith;
+        indexRestarts = restarts-kept (indexInterval o) (c .index) key _;
+        filters = upTo-kept (o .filtering) _ (c .filters);
+      }
+
+  same-keeps : (c : Counts) → c .openBlock ≡ noEntries (o .interval) → Keeps c c
+  unfolding noEntries
+  same-keeps c e = omega (arith, ap (λ (x : BlockCount). x .bytes) e, ap (λ (x : BlockCount). x .restarts) e)
+
+  last-keeps : (b : Building) → Keeps (countsOf o b) (countsOf o (closeLast b))
+  last-keeps b = go (b .openBlock) refl
+    where
+      go : (xs : List Addition) → b .openBlock ≡ xs → Keeps (countsOf o b) (countsOf o (closeLast b))
+      go [] e = rw (last-none b e) (same-keeps (countsOf o b) (unfold countsOf in rw e (count-none (o .interval))))
+      go (x ∷ xs) e = rw (last-some b x xs e, counts-close o (lastKey (b .openBlock)) b) (close-keeps (lastKey (b .openBlock)) (countsOf o b))
+
+  -- ---- what the finished table holds
+
+  finished-most : (b : Building)
+      → (let d = countsOf o (closeLast b) in
+      let k = countLast (o .filtering) (d .filters) in
+      d .written + (k .bytes + 4 * k .made) + (d .index .bytes + 4 * d .index .restarts) ≤ length (finish o b))
+  finished-most b = rw (size-finished o b) (unfold finishedSize filterBlockSize countSize in rw (← counts-last o b) (omega arith))
+
+  module _ (room : ℕ) where
+    -- the lengths of what the runs hold are counts
+    held-fits : (out : List ℕ) (b : Building) (f : Filters) → length out ≤ room
+        → (let x = countOf (indexInterval o) (indexPairs o 0 (b .closed)) in x .bytes + 4 * x .restarts ≤ room)
+        → 4 * countOf (o .interval) (map pairOf (b .openBlock)) .restarts ≤ room
+        → (let k = filterCountOf (o .filtering) f in (k .bytes + 4 * k .made ≤ room) × (4 * k .waiting ≤ room))
+        → FitsRoom room (held o out b f)
+    unfolding held entriesOf restartsIn countOf filterCountOf
+    held-fits out b f l x r k = let n = starts-length (o .filtering) 0 (f .made) in omega arith
+
+    module _ (b : Building) (done : List Addition) (i : Inv b done) (small : length (finish o b) ≤ room) where
+      between-fits : FitsRoom room (between o b)
+      unfolding between entriesOf countsOf countOf
+      between-fits =
+          let most = finished-most b in
+          let keeps = last-keeps b in
+          let last = last-kept (o .filtering) (countsOf o (closeLast b) .filters) .0 in
+          let hashes = waiting-fours b done i in
+          held-fits (written o (b .closed) ++ packed (o .interval) (o .interval) [] (map pairOf (b .openBlock))) b (filtersNow o b)
+          (simp length-append (omega arith)) (omega arith) (omega arith) (omega arith)
+
+      finished-fits : FitsRoom room (finished o b)
+      unfolding finished countsOf
+      finished-fits =
+          let f = filtersOf o 0 noFilters (closeLast b .closed) in
+          let most = rw (last-filters o b) at (finished-most b) in
+          let last = last-kept (o .filtering) (filterCountOf (o .filtering) f) .1 in
+          let none = count-zero (o .interval) (map pairOf (closeLast b .openBlock)) .1 (rw (no-open o b)) in
+          held-fits (finish o b) (closeLast b) (lastFilter f) small (omega arith) (omega arith) (rw (count-last (o .filtering) f) (omega arith))
+
+pub runs-suffice : runsSuffice
+runs-suffice o room more b fits least accepts =
+    let start = accepted o room room (size-fits o (is-true (optionsFit o) fits)) (le-refl room) begin [] more b inv-begin (rw (begin-is, empty-size) least) accepts in
+    (between-fits o room b more (start .0) (start .1), finished-fits o room b more (start .0) (start .1))

@@ -1,0 +1,9 @@
+pub mod Checked
+pub mod Options
+pub mod Table
+pub mod Build
+pub mod Promise
+pub mod Runs
+pub mod Counts
+pub mod Sizes
+pub mod Reads
