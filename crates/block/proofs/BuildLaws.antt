@@ -17,7 +17,7 @@ use Rattle.codec.proofs.Prelude.{test}
 use Rattle.codec.proofs.Lists.{Below}
 use Rattle.codec.proofs.BytesLaws.{part-first, part-second, bytes-length, number-bytes, fours-length, numbers-fours, Shares, shares-none, shares-common}
 use Rattle.codec.proofs.VarintLaws.{varint-bytes, varint-one, whole}
-use Rattle.block.specs.Block.{Pair, lastKeyOf, Head, head, Entry, pairsOf, entry, next, entriesF, restartsStand, firstIsZero, block, headBytes, entryBytes, sharing, since, sinceAll, packed, restartsOf, orZero, blockBytes}
+use Rattle.block.specs.Block.{Pair, lastKeyOf, Head, head, Entry, pairsOf, entry, next, entriesF, restartsStand, firstIsZero, block, headBytes, entryBytes, sharing, since, sinceAll, packed, restartsOf, orZero, tailBytes, blockBytes}
 use Rattle.block.proofs.ReadLaws.{Reads, reads-count, reads-back}
 
 -- ---- an entry
@@ -242,7 +242,7 @@ block-reads front rs es many small entries first =
 
 pub block-bytes : (i : ℕ) (ps : List Pair) → length (blockBytes i ps) < 2 ^ 32
     → block (blockBytes i ps) ≡ some (record { entries = planned i i [] 0 ps; restarts = orZero (restartsOf i i [] 0 ps) })
-unfolding blockBytes
+unfolding blockBytes tailBytes
 block-bytes i ps small =
     let rs : List ℕ = orZero (restartsOf i i [] 0 ps) in
     let p = packed i i [] ps in
@@ -259,7 +259,7 @@ block-bytes i ps small =
 
 -- a block of none
 pub none-long : (i : ℕ) → length (blockBytes i []) ≡ 8
-unfolding blockBytes packed restartsOf orZero fours bytesOf
+unfolding blockBytes packed restartsOf orZero tailBytes fours bytesOf
 none-long i = refl
 
 -- ---- building entry by entry
@@ -293,10 +293,14 @@ pub restarts-one : (i n : ℕ) (before : List ℕ) (at : ℕ) (p : Pair) → res
 unfolding restartsOf
 restarts-one i n before at p = test (eqb n i) (λ t. rw (t, restartsOf)) (λ t. rw (t, restartsOf))
 
+pub tail-length : (rs : List ℕ) → length (tailBytes rs) ≡ 4 * length (orZero rs) + 4
+unfolding tailBytes
+tail-length rs = simp (length-append, fours-length, bytes-length)
+
 -- a block's size: entry bytes, 4 for each restart, and 4
 pub block-length : (i : ℕ) (ps : List Pair) → length (blockBytes i ps) ≡ length (packed i i [] ps) + 4 * length (orZero (restartsOf i i [] 0 ps)) + 4
 unfolding blockBytes
-block-length i ps = simp (length-append, fours-length, bytes-length) (omega arith)
+block-length i ps = simp (length-append, tail-length) (omega arith)
 
 -- a block of one entry
 pub one-long : (i : ℕ) (p : Pair) → length (blockBytes i (p ∷ [])) ≡ length (entryBytes 0 p) + 8

@@ -2,3 +2,5 @@ pub mod ReadLaws
 pub mod BuildLaws
 pub mod CountLaws
 pub mod FormedLaws
+pub mod BuilderCode
+pub mod BuilderLaws

@@ -1,3 +1,5 @@
 pub mod Block
 pub mod Count
 pub mod Formed
+pub mod Builder
+pub mod Plan

@@ -1,1 +1,2 @@
-// The definitions stand in specs/, the laws about them in proofs/.
+// Blocks: entries whose keys share a start with the key before, restarts, and their count.
+pub mod block_builder;

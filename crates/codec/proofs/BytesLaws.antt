@@ -3,10 +3,11 @@ use Prim.Native.Nat.{ℕ, zero, suc, _+_, _*_, _-_, _/_, _%_, _^_, _≤_, _<_}
 use mathlib.Core.Path.{_≡_, refl, sym, ap, ap₂, _∙_}
 use mathlib.Core.List.{List, [], _∷_, _++_, append-assoc}
 use mathlib.Core.Bool.{true}
+use native.Mathlib.Nat.{pow-succ', mul-assoc, zero-add, suc-add}
 use native.Mathlib.Omega.{arith}
 use lib.Dec.{T, eqb, eqb→eq}
 use lib.ListN.{length, take, drop, getD, length-append, length-take, length-drop}
-use lib.Seq.{take-at, drop-at, drop-append-add, drop-append-seam, take-append-seam, getD-at, take-take, drop-drop, take-all}
+use lib.Seq.{take-at, drop-at, drop-append-add, drop-append-seam, take-append-seam, getD-at, take-take, drop-drop, take-all, take-nil}
 use borrow.Author.Tests.{eq-eqb, eqb-true, eqb-false}
 use Rattle.codec.specs.Bytes.{part, bytesOf, numberOf, fours, numbers, sameBytes, common}
 use Rattle.codec.proofs.Prelude.{test, is-true, and-l, and-r, true-is}
@@ -70,6 +71,13 @@ pub part-below : (m : ℕ) (s : List ℕ) (a n : ℕ) → Below m s → Below m 
 unfolding part
 part-below m s a n h = below-take m n (drop a s) (below-drop m a s h)
 
+-- a part as the end of a front
+pub part-front : (s : List ℕ) (at n : ℕ) → part s at n ≡ drop at (take (at + n) s)
+unfolding part
+part-front s zero n = rw zero-add
+part-front [] (suc at) n = rw suc-add (take-nil n)
+part-front (x ∷ s) (suc at) n = rw suc-add (part-front s at n)
+
 -- all but the last n, and the last n
 pub front-at : (a b : List ℕ) (n : ℕ) → length b ≡ n → take (length (a ++ b) - n) (a ++ b) ≡ a
 front-at a b n h = take-at a b (length (a ++ b) - n) (omega (arith, length-append a b))
@@ -91,6 +99,22 @@ pub number-bytes : (w x : ℕ) → x < 256 ^ w → numberOf (bytesOf w x) ≡ x
 unfolding bytesOf numberOf
 number-bytes zero x h = omega arith
 number-bytes (suc w) x h = rw (number-bytes w (x / 256) (omega arith)) (omega arith)
+
+-- what stands above w bytes does not show in them
+pub bytes-above : (w x k : ℕ) → bytesOf w (x + 256 ^ w * k) ≡ bytesOf w x
+unfolding bytesOf
+bytes-above zero x k = refl
+bytes-above (suc w) x k =
+    let m = 256 ^ w * k in
+    let e : 256 ^ suc w * k ≡ 256 * m = ap (λ (p : ℕ). p * k) (pow-succ' 256 w) ∙ mul-assoc 256 (256 ^ w) k in
+    let a : (x + 256 ^ suc w * k) % 256 ≡ x % 256 = omega arith in
+    let b : (x + 256 ^ suc w * k) / 256 ≡ x / 256 + m = omega arith in
+    ap₂ _∷_ a (ap (bytesOf w) b ∙ bytes-above w (x / 256) k)
+
+pub bytes-low : (n : ℕ) → bytesOf 4 (n % 4294967296) ≡ bytesOf 4 n
+bytes-low n =
+    let e : n ≡ n % 4294967296 + 256 ^ 4 * (n / 4294967296) = omega arith in
+    sym (ap (bytesOf 4) e ∙ bytes-above 4 (n % 4294967296) (n / 4294967296))
 
 pub bytes-number : (bs : List ℕ) → Below 256 bs → bytesOf (length bs) (numberOf bs) ≡ bs
 unfolding bytesOf numberOf

@@ -14,7 +14,7 @@ use Rattle.codec.specs.declared.blockhandle.OneHandle.the-variants as On
 use Rattle.codec.specs.declared.varint.VarintRead.the-variants.{Value, Bad}
 use Rattle.codec.specs.Varint.{Read, varintFrom, varint, varintBytesF, HandleRead, handle, oneHandle}
 use Rattle.codec.specs.Answers.{varintAnswer, handleAnswer, oneHandleAnswer}
-use Rattle.codec.proofs.VarintLaws.{read-is, resume, resume-more, from-nil, from-last, from-more, varint-none, varint-over, varint-some, bytes-more, varint-size, handle-none, handle-half, handle-some, one-some, one-left, one-none}
+use Rattle.codec.proofs.VarintLaws.{read-is, resume, resume-more, from-nil, from-last, from-more, varint-none, varint-over, varint-some, bytes-more, varint-size, handle-size, handle-none, handle-half, handle-some, one-some, one-left, one-none}
 
 -- ---- reading: what is left at i, after what was read, is all of s
 
@@ -96,14 +96,14 @@ module _ (s : List ℕ) where
   pub varint-within : {v n : ℕ} → varintAnswer (varint s) ≡ Value v n → n ≤ length s
   varint-within e = varint-size s (a-varint e) .there
 
-  no-handle : handleAnswer (handle s) ≡ HandleCase.Bad → handle s ≡ none
+  pub no-handle : handleAnswer (handle s) ≡ HandleCase.Bad → handle s ≡ none
   no-handle = go (handle s)
     where
       go : (o : Option HandleRead) → handleAnswer o ≡ HandleCase.Bad → o ≡ none
       go none e = refl
       go (some r) e = unfold handleAnswer in cc
 
-  a-handle : {v w n : ℕ} → handleAnswer (handle s) ≡ HandleCase.Handle v w n → handle s ≡ some (record { handle = record { offset = v; size = w }; size = n })
+  pub a-handle : {v w n : ℕ} → handleAnswer (handle s) ≡ HandleCase.Handle v w n → handle s ≡ some (record { handle = record { offset = v; size = w }; size = n })
   a-handle {v} {w} {n} = go (handle s)
     where
       go : (o : Option HandleRead) → handleAnswer o ≡ HandleCase.Handle v w n → o ≡ some (record { handle = record { offset = v; size = w }; size = n })
@@ -114,6 +114,9 @@ module _ (s : List ℕ) where
           let q : r .handle .size ≡ w = cc in
           let t : r .size ≡ n = cc in
           λ i. some (record { handle = record { offset = p i; size = q i }; size = t i })
+
+  pub handle-within : {v w n : ℕ} → handleAnswer (handle s) ≡ HandleCase.Handle v w n → n ≤ length s
+  handle-within e = handle-size s (a-handle e) .there
 
 -- ---- a handle by the answers on its two numbers, and one handle by the answer on a handle
 

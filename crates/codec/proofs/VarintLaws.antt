@@ -6,7 +6,7 @@ use mathlib.Core.Option.{Option, none, some, Option·some-inj, Option·none-ne-s
 use native.Mathlib.Nat.{add-mul, mul-assoc}
 use native.Mathlib.Omega.{arith}
 use lib.Dec.{ltb}
-use lib.ListN.{length, drop, length-append}
+use lib.ListN.{length, drop, length-append, length-drop}
 use lib.Seq.{drop-append-seam}
 use borrow.Author.Tests.{lt-ltb, le-ltb, eq-eqb, ne-eqb}
 use Rattle.codec.specs.Maybe.{_>>=_, ask}
@@ -143,6 +143,16 @@ whole x = record { value = x; size = length (varintBytes x) }
 pub record Fits (h : Handle) : Type 0 where
   pub offset : h .offset < 2 ^ 64
   pub size : h .size < 2 ^ 64
+
+pub handle-size : (s : List ℕ) {r : HandleRead} → handle s ≡ some r → Sized s (r .size)
+unfolding handle
+handle-size s {r} p =
+    getting _ _ p λ a ra p.
+    getting _ _ p λ b rb p.
+    let e : a .size + b .size ≡ r .size = ap (λ (x : HandleRead). x .size) (Option·some-inj .0 p) in
+    let sa = varint-size s ra in
+    let sb = varint-size (drop (a .size) s) rb in
+    record { some-byte = omega arith; there = omega (arith, length-drop (a .size) s) }
 
 pub handle-none : (s : List ℕ) → varint s ≡ none → handle s ≡ none
 unfolding handle _>>=_

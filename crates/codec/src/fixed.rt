@@ -2,7 +2,7 @@
 ghost use mathlib.Core.Path.{_≡_};
 ghost use Prim.Native.Nat.{_+_, _*_};
 ghost use Rattle.codec.specs.Answers.{u32Answer, u64Answer};
-ghost use Rattle.codec.specs.Bytes.{bytesOf, numberAt};
+ghost use Rattle.codec.specs.Bytes.{bytesOf, numberAt, fours};
 ghost use Rattle.codec.specs.Put.{Wrote};
 use crate::put::Written;
 
@@ -85,4 +85,22 @@ pub fn write_u64(out: &mut [u8], at: usize, x: u64) -> Written
     ensures { λ r. ⌜ Wrote (now (out .entry)) at (bytesOf 8 x) r (now (out .exit)) ⌝ }
 {
     write_number(out, at, 8, x)
+}
+
+// Writes the numbers of xs, 4 bytes each, at a place of out.
+pub fn write_u32s(out: &mut [u8], at: usize, xs: &[u32]) -> Written
+    ensures { λ r. ⌜ Wrote (now (out .entry)) at (fours (now (xs .entry))) r (now (out .exit)) ⌝ }
+{
+    if out.len() < at {
+        return Written::NoRoom;
+    }
+    if (out.len() - at) / 4 < xs.len() {
+        return Written::NoRoom;
+    }
+    let mut i: usize = 0;
+    while i < xs.len() {
+        write_u32(out, at + 4 * i, xs[i]);
+        i = i + 1;
+    }
+    Written::At(at + 4 * i)
 }

@@ -1,7 +1,7 @@
 -- A filter block that was built is well formed, and lets each hash of each filter through.
 use Prim.Native.Nat.{ℕ, zero, suc, _+_, _*_, _-_, _/_, _%_, _^_, _≤_, _<_}
 use mathlib.Core.Path.{_≡_, refl, ap}
-use mathlib.Core.List.{List, [], _∷_, _++_, append-assoc, append-nil, List·Memᴰ, List·Memᴰ·head, List·Memᴰ·tail}
+use mathlib.Core.List.{List, [], _∷_, _++_, append-assoc, append-nil, List·Memᴰ}
 use mathlib.Core.Bool.{true}
 use native.Mathlib.Numerals.{add-one}
 use native.Mathlib.Nat.{zero-add, add-zero}
@@ -13,9 +13,12 @@ use Rattle.codec.specs.Bytes.{part, bytesOf, fours, numbers}
 use Rattle.codec.proofs.Prelude.{or-true}
 use Rattle.codec.proofs.Lists.{Below}
 use Rattle.codec.proofs.BytesLaws.{part-at, back-at, last-one, bytes-length, number-bytes, fours-length, fours-append, numbers-fours, number-of-fours}
-use Rattle.filter.specs.Filter.{filterMay}
-use Rattle.filter.specs.FilterBlock.{baseOf, arrayOf, countOf, startOf, rising, filterFormed, mayMatch, Filtering, bitsPerKey, filterFor, madeBytes, starts, filterBlockBytes}
-use Rattle.filter.proofs.FilterLaws.{filter-may}
+use Rattle.filter.specs.FilterBlock.{baseOf, arrayOf, countOf, startOf, rising, filterFormed, mayMatch, Filtering, filterFor, madeBytes, starts, filterBlockOf, filterBlockBytes}
+use Rattle.filter.proofs.FilterLaws.{never-denies}
+
+pub block-of-long : (fs os : List ℕ) → length (filterBlockOf fs os) ≡ length fs + 4 * length os + 5
+unfolding filterBlockOf
+block-of-long fs os = simp (length-append, bytes-length, fours-length) (omega arith)
 
 -- ---- the starts, and after them where the last filter ends
 
@@ -99,7 +102,7 @@ module _ (c : Filtering) where
   -- the block's size: the filters, 4 for each, and 5
   pub block-long : (gs : List (List ℕ)) → length (filterBlockBytes c gs) ≡ length (madeBytes c gs) + 4 * length gs + 5
   unfolding filterBlockBytes
-  block-long gs = simp (length-append, bytes-length, fours-length, starts-length) (omega arith)
+  block-long gs = omega (arith, block-of-long (madeBytes c gs) (starts c 0 gs), starts-length 0 gs)
 
 -- ---- of any bytes: a number not below the count may match
 pub may-beyond : (s : List ℕ) (offset h : ℕ) → countOf s ≤ offset / 2 ^ (baseOf s) → mayMatch s offset h ≡ true
@@ -126,13 +129,13 @@ module _ (c : Filtering) (gs : List (List ℕ)) (small : length (madeBytes c gs)
   s = filterBlockBytes c gs
 
   base-is : baseOf s ≡ 11
-  unfolding baseOf filterBlockBytes
+  unfolding baseOf filterBlockBytes filterBlockOf
   base-is =
       let e : fs ++ (fours os ++ (len ++ (11 ∷ []))) ≡ (fs ++ fours os ++ len) ++ (11 ∷ []) = simp append-assoc in
       rw e (last-one (fs ++ fours os ++ len) 11)
 
   array-is : arrayOf s ≡ length fs
-  unfolding arrayOf filterBlockBytes
+  unfolding arrayOf filterBlockBytes filterBlockOf
   array-is =
       let e : fs ++ (fours os ++ (len ++ (11 ∷ []))) ≡ (fs ++ fours os) ++ (len ++ (11 ∷ [])) = simp append-assoc in
       rw (e, back-part (fs ++ fours os) len 11 (bytes-length 4 _)) (number-bytes 4 (length fs) small)
@@ -142,7 +145,7 @@ module _ (c : Filtering) (gs : List (List ℕ)) (small : length (madeBytes c gs)
   count-is = omega (arith, block-long c gs, array-is)
 
   numbers-are : numbers (countOf s) (drop (arrayOf s) s) ≡ os
-  unfolding filterBlockBytes
+  unfolding filterBlockBytes filterBlockOf
   numbers-are =
       rw (count-is, array-is, drop-append-seam, ← starts-length c 0 gs) (numbers-fours os (len ++ (11 ∷ [])) (starts-below c 0 gs (2 ^ 32) (omega arith)))
 
@@ -155,31 +158,20 @@ module _ (c : Filtering) (gs : List (List ℕ)) (small : length (madeBytes c gs)
   start-is : (i : ℕ) → i ≤ length gs → startOf s i ≡ getD (bounds c 0 gs) i 0
   unfolding startOf
   start-is i h =
-      let all : s ≡ fs ++ (fours (bounds c 0 gs) ++ (11 ∷ [])) = unfold filterBlockBytes fours in rw (bounds-are c 0 gs, fours-append, zero-add) (simp (append-assoc, append-nil)) in
+      let all : s ≡ fs ++ (fours (bounds c 0 gs) ++ (11 ∷ [])) = unfold filterBlockBytes filterBlockOf fours in rw (bounds-are c 0 gs, fours-append, zero-add) (simp (append-assoc, append-nil)) in
       rw (array-is, all) (number-of-fours fs (bounds c 0 gs) (11 ∷ []) i (bounds-below c 0 gs (2 ^ 32) (omega arith)) (omega (arith, bounds-length c 0 gs)))
 
   filter-is : (i : ℕ) → i < length gs → part s (startOf s i) (startOf s (i + 1) - startOf s i) ≡ filterFor c (getD gs i [])
   filter-is i h =
-      rw (start-is i (omega arith), start-is (i + 1) (omega arith), add-one) (unfold filterBlockBytes in bounds-part c [] (fours os ++ (len ++ (11 ∷ []))) gs i h)
+      rw (start-is i (omega arith), start-is (i + 1) (omega arith), add-one) (unfold filterBlockBytes filterBlockOf in bounds-part c [] (fours os ++ (len ++ (11 ∷ []))) gs i h)
 
   pub may-past : (offset h : ℕ) → length gs ≤ offset / 2048 → mayMatch s offset h ≡ true
   may-past offset h l = may-beyond s offset h (rw (base-is, count-is) l)
 
-  may-in : (offset h : ℕ) → offset / 2048 < length gs → filterMay (filterFor c (getD gs (offset / 2048) [])) h ≡ true → mayMatch s offset h ≡ true
+  -- a filter lets its hashes through
+  pub may-group : (offset h : ℕ) → offset / 2048 < length gs → List·Memᴰ h (getD gs (offset / 2048) []) → mayMatch s offset h ≡ true
   unfolding mayMatch
-  may-in offset h l m = rw (base-is, filter-is (offset / 2048) l, m) (simp or-true)
-
--- ---- a filter lets its hashes through
-
-group-may : (b : ℕ) (g : List ℕ) (h : ℕ) → List·Memᴰ h g → filterMay (filterFor (bitsPerKey b) g) h ≡ true
-unfolding filterFor
-group-may b g h (List·Memᴰ·head {x = y} {xs = more} q) = filter-may b (y ∷ more) h (List·Memᴰ·head q)
-group-may b g h (List·Memᴰ·tail {x = y} {xs = more} m) = filter-may b (y ∷ more) h (List·Memᴰ·tail m)
-
-pub may-group : (b : ℕ) (gs : List (List ℕ)) (offset h : ℕ) → length (madeBytes (bitsPerKey b) gs) < 2 ^ 32 → offset / 2048 < length gs
-    → List·Memᴰ h (getD gs (offset / 2048) []) → mayMatch (filterBlockBytes (bitsPerKey b) gs) offset h ≡ true
-may-group b gs offset h small l m = may-in (bitsPerKey b) gs small offset h l (group-may b (getD gs (offset / 2048) []) h m)
+  may-group offset h l m = rw (base-is, filter-is (offset / 2048) l, never-denies c (getD gs (offset / 2048) []) h m) (simp or-true)
 
 pub made-long : (c : Filtering) (gs : List (List ℕ)) → length (madeBytes c gs) ≤ length (filterBlockBytes c gs)
-unfolding filterBlockBytes
-made-long c gs = simp length-append (omega arith)
+made-long c gs = omega (arith, block-long c gs)

@@ -17,13 +17,14 @@ pub wait-append : (hs ks : List ℕ) (f : Filters) → wait (hs ++ ks) f ≡ wai
 unfolding wait
 wait-append hs ks f = rw (← append-assoc (f .waiting) hs ks)
 
-filter-size : (c : Filtering) (hs : List ℕ) → length (filterFor c hs) ≡ filterBytesOf c (length hs)
+-- the bytes of a filter are those of its number of hashes
+pub filter-size : (c : Filtering) (hs : List ℕ) → length (filterFor c hs) ≡ filterBytesOf c (length hs)
 unfolding filterFor filterBytesOf
 filter-size unfiltered hs = refl
 filter-size (bitsPerKey b) [] = refl
 filter-size (bitsPerKey b) (h ∷ hs) = filter-length b (h ∷ hs)
 
-no-bytes : (c : Filtering) → filterBytesOf c 0 ≡ 0
+pub no-bytes : (c : Filtering) → filterBytesOf c 0 ≡ 0
 unfolding filterBytesOf
 no-bytes unfiltered = refl
 no-bytes (bitsPerKey b) = refl

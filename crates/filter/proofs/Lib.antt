@@ -3,3 +3,7 @@ pub mod FilterBlockLaws
 pub mod GroupLaws
 pub mod HashLaws
 pub mod FilterCountLaws
+pub mod FilterCode
+pub mod ProbeLaws
+pub mod FilterBlockCode
+pub mod MakeLaws

@@ -1,3 +1,5 @@
 pub mod Filter
 pub mod FilterBlock
 pub mod FilterCount
+pub mod Choice
+pub mod Make

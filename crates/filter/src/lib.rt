@@ -1,1 +1,3 @@
-// The definitions stand in specs/, the laws about them in proofs/.
+// Bloom filters and the filter block.
+pub mod filter;
+pub mod filter_block;

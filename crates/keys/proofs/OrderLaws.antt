@@ -1,9 +1,10 @@
 -- The laws of the orders by bytes and by points: strict and total.
 use Prim.Native.Nat.{ℕ, zero, suc, _≤_, _<_, compare, Ordering, Ordering·lt, Ordering·eq, Ordering·gt, compare·zero-suc, compare·suc-zero, compare·suc-suc}
-use mathlib.Core.Path.{_≡_, refl, sym, ap, ap₂}
+use mathlib.Core.Path.{_≡_, refl, sym, ap, ap₂, _∙_}
 use mathlib.Core.Logic.{_⊎_, inl, inr}
 use mathlib.Core.List.{List, [], _∷_}
 use mathlib.Core.Bool.{Bool, true, false, not}
+use native.Mathlib.Omega.{arith}
 use lib.Dec.{T, isLe, leb, isEq, eqb→eq, leb→le, le→leb, nleb→lt, T-not}
 use Rattle.codec.proofs.Prelude.{is-true, is-false}
 use Rattle.keys.specs.Order.{andThen, isLess, byBytes, Point, pointOf, byPoint, below}
@@ -84,12 +85,24 @@ compare-joins (suc x) zero (suc z) = simp (compare·zero-suc, compare·suc-zero)
 compare-joins (suc x) (suc y) zero = simp compare·suc-zero (joins-more (compare (suc x) (suc y)))
 compare-joins (suc x) (suc y) (suc z) = simp compare·suc-suc (compare-joins x y z)
 
-compare-eq : (x y : ℕ) → compare x y ≡ Ordering·eq → x ≡ y
+pub compare-eq : (x y : ℕ) → compare x y ≡ Ordering·eq → x ≡ y
 compare-eq x y e = eqb→eq x y (rw e tt)
+
+pub compare-lt : (x y : ℕ) → x < y → compare x y ≡ Ordering·lt
+compare-lt zero zero h = absurd (omega arith)
+compare-lt zero (suc y) h = compare·zero-suc y
+compare-lt (suc x) zero h = absurd (omega arith)
+compare-lt (suc x) (suc y) h = simp compare·suc-suc (compare-lt x y (omega arith))
+
+pub compare-gt : (x y : ℕ) → y < x → compare x y ≡ Ordering·gt
+compare-gt x y h = compare-turned y x ∙ ap turned (compare-lt y x h)
 
 pub compare-same : (x : ℕ) → compare x x ≡ Ordering·eq
 compare-same zero = refl
 compare-same (suc x) = simp compare·suc-suc (compare-same x)
+
+pub compare-is : (x y : ℕ) → x ≡ y → compare x y ≡ Ordering·eq
+compare-is x y e = rw e (compare-same y)
 
 -- ---- bytes
 

@@ -1,1 +1,3 @@
-// The definitions stand in specs/, the laws about them in proofs/.
+// Internal keys, their order, separators and successors.
+pub mod cmp;
+pub mod key_types;

@@ -15,7 +15,7 @@ use Rattle.codec.proofs.TrailerLaws.{trailer-length, stands-written}
 use Rattle.codec.proofs.VarintLaws.{Fits, handle-bytes, handle-long}
 use Rattle.table.specs.Checked.{pass, _>>=_, ask, orRefuse}
 use Rattle.table.specs.Options.{tableLimit}
-use Rattle.table.specs.Table.{magic, placed, footer, contents, sealed}
+use Rattle.table.specs.Table.{magic, endsBefore, placed, footerHandles, footer, contents, sealed}
 use Rattle.table.specs.Build.{framed, footerBytes}
 
 pub framed-length : (s : List ℕ) → length (framed s) ≡ length s + 5
@@ -41,7 +41,7 @@ module _ (pre s post : List ℕ) where
   framed-sealed = rw (append-assoc s (trailer s) post, stands-written pre s post)
 
   pub framed-placed : length pre + length s + 5 + 48 ≤ length t → placed t (its pre s) ≡ pass tt
-  unfolding placed ask
+  unfolding placed endsBefore ask
   framed-placed h = cc (le-leb (length pre + length s + 5) (length t - 48) (omega arith))
 
 -- ---- the footer
@@ -49,7 +49,7 @@ footer-some : (t : List ℕ) (m i : HandleRead) → 48 ≤ length t → length t
     → handle (part t (length t - 48) 40) ≡ some m → handle (drop (m .size) (part t (length t - 48) 40)) ≡ some i
     → placed t (m .handle) ≡ pass tt → placed t (i .handle) ≡ pass tt
     → footer t ≡ pass (record { metaindex = m .handle; index = i .handle })
-unfolding footer _>>=_ ask orRefuse
+unfolding footer footerHandles _>>=_ ask orRefuse
 footer-some t m i l u e hm hi pm pi = cc (le-leb 48 (length t) l, le-leb (length t) tableLimit u, same-same magic)
 
 magic-length : length magic ≡ 8
@@ -90,7 +90,7 @@ module _ (pre : List ℕ) (m i : Handle) where
   pub footer-bytes : Fits m → Fits i → length (pre ++ footerBytes m i) ≤ tableLimit
       → m .offset + m .size + 5 ≤ length pre → i .offset + i .size + 5 ≤ length pre
       → footer (pre ++ footerBytes m i) ≡ pass (record { metaindex = m; index = i })
-  unfolding placed ask
+  unfolding placed endsBefore ask
   footer-bytes fm fi small lm li =
       let t = pre ++ footerBytes m i in
       let l = length-append pre (footerBytes m i) in

@@ -2,6 +2,7 @@ pub mod CheckedLaws
 pub mod StandLaws
 pub mod SearchLaws
 pub mod PlaceLaws
+pub mod FooterLaws
 pub mod FrameLaws
 pub mod PlainLaws
 pub mod LetsLaws

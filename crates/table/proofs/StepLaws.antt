@@ -9,7 +9,7 @@ use Rattle.codec.specs.Bytes.{bytesOf, fours}
 use Rattle.codec.specs.Varint.{varintBytesF, varintBytes, handleBytes}
 use Rattle.block.specs.Block.{headBytes, entryBytes}
 use Rattle.block.proofs.BuildLaws.{one-long, none-long}
-use Rattle.filter.specs.FilterBlock.{Filtering, unfiltered, bitsPerKey, Filters, noFilters, lastFilter, madeBytes, starts, filterBlockBytes}
+use Rattle.filter.specs.FilterBlock.{Filtering, unfiltered, bitsPerKey, Filters, noFilters, lastFilter, madeBytes, starts, filterBlockOf, filterBlockBytes}
 use Rattle.table.specs.Options.{Options, indexInterval, tableLimit, emptySize, Addition}
 use Rattle.block.specs.Formed.{bloomName}
 use Rattle.table.specs.Build.{Chunk, Building, framed, chunkBytes, written, endOf, indexPairs, filtersOf, filterBytes, metaName, metaPair, metaBytes, indexBytes, metaHandle, indexHandle, table, lastKey, close, closeLast}
@@ -59,7 +59,7 @@ empty-most (bitsPerKey b) = omega arith
 
 module _ (o : Options) where
   no-filter : length (filterBytes o []) ≡ 5
-  unfolding filterBytes lastFilter filtersOf noFilters madeBytes starts filterBlockBytes fours bytesOf
+  unfolding filterBytes lastFilter filtersOf noFilters madeBytes starts filterBlockBytes filterBlockOf fours bytesOf
   no-filter = refl
 
   no-written : length (written o []) ≡ 0

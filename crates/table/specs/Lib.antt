@@ -7,3 +7,4 @@ pub mod Runs
 pub mod Counts
 pub mod Sizes
 pub mod Reads
+pub mod Answers

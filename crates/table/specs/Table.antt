@@ -22,14 +22,27 @@ magic = 0x57 ∷ 0xfb ∷ 0x80 ∷ 0x8b ∷ 0x24 ∷ 0x75 ∷ 0x47 ∷ 0xdb ∷ 
 
 -- ---- the footer, and blocks in the table
 
+-- a block of so many bytes and its trailer end before the footer of a table of len bytes
+unfoldable pub endsBefore : ℕ → ℕ → ℕ → Bool
+endsBefore len offset size = leb (offset + size + 5) (len - 48)
+
 -- 8: a handle's block and trailer end before the footer
 unfoldable pub placed : List ℕ → Handle → Checked (Unit {0})
-placed t h = ask 8 (leb (h .offset + h .size + 5) (length t - 48))
+placed t h = ask 8 (endsBefore (length t) (h .offset) (h .size))
 
 -- the footer's two handles
 pub record Footer : Type 0 where
   pub metaindex : Handle
   pub index : Handle
+
+-- 8 for both handles, in the 40 bytes before the magic
+unfoldable pub footerHandles : List ℕ → List ℕ → Checked Footer
+footerHandles t s = do
+  m ← orRefuse 8 (handle s)
+  i ← orRefuse 8 (handle (drop (m .size) s))
+  _ ← placed t (m .handle)
+  _ ← placed t (i .handle)
+  pass (record { metaindex = m .handle; index = i .handle })
 
 -- 7, and 8 for both handles
 unfoldable pub footer : List ℕ → Checked Footer
@@ -37,11 +50,7 @@ footer t = do
   _ ← ask 7 (leb 48 (length t))
   _ ← ask 7 (leb (length t) tableLimit)
   _ ← ask 7 (sameBytes (drop (length t - 8) t) magic)
-  m ← orRefuse 8 (handle (part t (length t - 48) 40))
-  i ← orRefuse 8 (handle (drop (m .size) (part t (length t - 48) 40)))
-  _ ← placed t (m .handle)
-  _ ← placed t (i .handle)
-  pass (record { metaindex = m .handle; index = i .handle })
+  footerHandles t (part t (length t - 48) 40)
 
 -- the bytes of the block at a handle
 unfoldable pub contents : List ℕ → Handle → List ℕ

@@ -1,1 +1,3 @@
-// The definitions stand in specs/, the laws about them in proofs/.
+// Whole tables: what stands at their end, and where blocks may stand. The definitions of the full check, the plain reading and
+// building are in specs/.
+pub mod footer;

@@ -1,0 +1,128 @@
+-- What the code answers and writes of keys, against the definitions: comparisons, kinds, tags.
+use Prim.Native.Nat.{ℕ, zero, suc, _+_, _*_, _-_, _/_, _%_, _^_, _≤_, _<_, compare, Ordering, Ordering·lt, Ordering·eq, Ordering·gt}
+use mathlib.Core.Path.{_≡_, refl, sym, ap, _∙_}
+use mathlib.Core.List.{List, [], _∷_}
+use native.Mathlib.Omega.{arith}
+use lib.ListN.{length, drop, getD, length-drop}
+use lib.Seq.{drop-cons, take-all}
+use borrow.Author.Tests.{lt-ltb, le-ltb}
+use Rattle.codec.specs.declared.fixed.U64Read.the-variants.{Value, Bad}
+use Rattle.codec.specs.Answers.{u64Answer}
+use Rattle.codec.specs.Bytes.{part, bytesOf, numberOf, numberAt}
+use Rattle.codec.proofs.Lists.{Below, below-drop}
+use Rattle.codec.proofs.BytesLaws.{bytes-above}
+use Rattle.codec.proofs.FixedLaws.{number-in}
+use Rattle.keys.specs.declared.cmp.Ordering.the-variants.{Less, Equal, Greater}
+use Rattle.keys.specs.declared.key_types.KeyRead.the-variants.{Key, TooShort}
+use Rattle.keys.specs.declared.key_types.ValueType.the-variants.{TypeValue}
+use Rattle.keys.specs.Answers.{orderAnswer, kindAnswer, keyAnswer}
+use Rattle.keys.specs.Order.{andThen, byBytes, userOf, tagOf, seqOf, kindOf, pointOf, byPoint}
+
+-- ---- comparisons
+
+pub less-is : (o : Ordering) → orderAnswer o ≡ Less → o ≡ Ordering·lt
+unfolding orderAnswer
+less-is Ordering·lt e = refl
+less-is Ordering·eq e = cc
+less-is Ordering·gt e = cc
+
+pub equal-is : (o : Ordering) → orderAnswer o ≡ Equal → o ≡ Ordering·eq
+unfolding orderAnswer
+equal-is Ordering·lt e = cc
+equal-is Ordering·eq e = refl
+equal-is Ordering·gt e = cc
+
+pub greater-is : (o : Ordering) → orderAnswer o ≡ Greater → o ≡ Ordering·gt
+unfolding orderAnswer
+greater-is Ordering·lt e = cc
+greater-is Ordering·eq e = cc
+greater-is Ordering·gt e = refl
+
+-- a key against a target: the words decide, or where they are equal the sequences
+module _ (k w : List ℕ) (s : ℕ) {u : List ℕ} (isU : u ≡ userOf k) where
+  by-word : {o : Ordering} → byBytes u w ≡ o → orderAnswer (andThen o (compare s (tagOf k / 256))) ≡ orderAnswer (byPoint (pointOf k) (record { word = w; edition = s }))
+  unfolding byPoint seqOf
+  by-word e = rw (← e, isU)
+
+  pub target-less : orderAnswer (byBytes u w) ≡ Less → Less ≡ orderAnswer (byPoint (pointOf k) (record { word = w; edition = s }))
+  unfolding orderAnswer
+  target-less e = by-word (less-is (byBytes u w) e)
+
+  pub target-greater : orderAnswer (byBytes u w) ≡ Greater → Greater ≡ orderAnswer (byPoint (pointOf k) (record { word = w; edition = s }))
+  unfolding orderAnswer
+  target-greater e = by-word (greater-is (byBytes u w) e)
+
+  pub target-equal : orderAnswer (byBytes u w) ≡ Equal → {t : ℕ} → t ≡ tagOf k → orderAnswer (compare s (t / 256)) ≡ orderAnswer (byPoint (pointOf k) (record { word = w; edition = s }))
+  target-equal e q = rw q (by-word (equal-is (byBytes u w) e))
+
+-- ---- kinds
+
+pub kind-value : (kind : ℕ) → (kind ≡ 0 → ⊥) → TypeValue ≡ kindAnswer kind
+unfolding kindAnswer
+kind-value zero h = absurd (h refl)
+kind-value (suc n) h = refl
+
+-- ---- numbers of fewer than eight bytes
+
+-- the number of some bytes goes on with the byte before them
+pub number-before : (s : List ℕ) (i : ℕ) → 0 < i → i ≤ length s → numberOf (drop i s) * 256 + getD s (i - 1) 0 ≡ numberOf (drop (i - 1) s)
+unfolding numberOf
+number-before s i h l =
+    let e : suc (i - 1) ≡ i = omega arith in
+    rw e at (before (i - 1) (omega arith))
+  where
+    before : (m : ℕ) → m < length s → numberOf (drop (suc m) s) * 256 + getD s m 0 ≡ numberOf (drop m s)
+    before m l = rw (drop-cons s m 0 l) (omega arith)
+
+number-below : (w : ℕ) (s : List ℕ) → Below 256 s → length s ≤ w → numberOf s < 256 ^ w
+unfolding numberOf
+number-below zero [] h l = omega arith
+number-below zero (b ∷ bs) h l = absurd (omega arith)
+number-below (suc w) [] h l = omega (arith, number-below w [] tt (omega arith))
+number-below (suc w) (b ∷ bs) h l = omega (arith, h .0, number-below w bs (h .1) (omega arith))
+
+-- what the bytes after the first make leaves room for one byte more
+pub number-fits : (s : List ℕ) (i : ℕ) → Below 256 s → length s < 8 → 0 < i → i ≤ length s → numberOf (drop i s) < 256 ^ 6
+number-fits s i h l p q = number-below 6 (drop i s) (below-drop 256 i s h) (omega (arith, length-drop i s))
+
+-- ---- the parts of a key, shorter than a tag or not
+
+module _ (k : List ℕ) where
+  module _ (short : length k < 8) where
+    none-before : length k - 8 ≡ 0
+    none-before = omega arith
+
+    pub user-short : [] ≡ userOf k
+    unfolding userOf
+    user-short = rw none-before
+
+    pub tag-short : numberOf k ≡ tagOf k
+    unfolding tagOf
+    tag-short = rw none-before
+
+    pub key-short : TooShort ≡ keyAnswer k
+    unfolding keyAnswer
+    key-short = rw (lt-ltb (length k) 8 short, keyAnswer)
+
+  module _ (long : 8 ≤ length k) where
+    read : u64Answer (numberAt 8 k (length k - 8)) ≡ Value (tagOf k)
+    unfolding u64Answer part tagOf
+    read = ap u64Answer (number-in 8 k (length k - 8) (omega arith)) ∙ rw (take-all 8 (drop (length k - 8) k) (omega (arith, length-drop (length k - 8) k)))
+
+    pub tag-read : {x : ℕ} → u64Answer (numberAt 8 k (length k - 8)) ≡ Value x → x ≡ tagOf k
+    tag-read e = let f = read in cc
+
+    pub tag-there : u64Answer (numberAt 8 k (length k - 8)) ≡ Bad → ⊥
+    tag-there e = let f = read in let z : _≡_ {A = ℕ} 0 1 = cc in omega arith
+
+    pub key-long : Key (length k - 8) (tagOf k / 256) (kindAnswer (tagOf k % 256)) ≡ keyAnswer k
+    unfolding keyAnswer seqOf kindOf
+    key-long = rw (le-ltb (length k) 8 long, keyAnswer)
+
+-- ---- what is written
+
+-- a tag's sequence, cut to its low 56 bits
+pub tag-bytes : (s kind : ℕ) → bytesOf 8 (s % 2 ^ 56 * 256 + kind) ≡ bytesOf 8 (s * 256 + kind)
+tag-bytes s kind =
+    let e : s * 256 + kind ≡ s % 2 ^ 56 * 256 + kind + 256 ^ 8 * (s / 2 ^ 56) = omega arith in
+    rw e (sym (bytes-above 8 (s % 2 ^ 56 * 256 + kind) (s / 2 ^ 56)))

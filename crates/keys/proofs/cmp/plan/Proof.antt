@@ -1,0 +1,61 @@
+-- `keys::cmp::plan` meets its contract.
+use mathlib.Core.Path.{sym, ap, _∙_}
+use borrow.Author.Tests.{not-true, not-false}
+use Rattle.keys.specs.Order.{bytesBelow}
+use Rattle.keys.specs.Plan.{sepBytes, SepFits}
+use Rattle.keys.proofs.PlanLaws.{sep-empty, sep-above, sep-reaches, sep-shortest}
+use borrow.Author.Needs.{needs}
+use native.Mathlib.Omega.{arith}
+use Rattle.keys.proofs.cmp.plan.Statement.{statement}
+use Rattle.keys.proofs.cmp.plan.Tie as tie
+
+returns : tie.Need-returns
+unfolding sepBytes SepFits
+returns c = record { fits = tt; gives = sep-empty _ _ (c .if1 .taken) }
+
+below-requires : tie.Need-below-requires
+below-requires c κs = search needs
+
+returns-2 : tie.Need-returns-2
+unfolding sepBytes SepFits
+returns-2 c = record { fits = tt; gives = sep-above _ _ (sym (c .before .below .ensures) ∙ not-true _ (c .if2 .taken)) }
+
+shortest-requires : tie.Need-shortest-requires
+shortest-requires c κs = search needs
+
+sep-below-requires : tie.Need-sep-below-requires
+sep-below-requires c κs = search needs
+
+returns-3 : tie.Need-returns-3
+returns-3 c =
+    let a = c .before .before .before .before .before .before .before .before .args in
+    let s = c .before .before .shortest .ensures in
+    record {
+      fits = s .fits;
+      gives = s .gives
+          ∙ sep-shortest (a .a .now) (a .b .now) (omega arith) (sym (c .before .before .before .before .below .ensures) ∙ not-false _ (c .before .before .before .if2 .left))
+          (sym (ap (λ l. bytesBelow l (a .b .now)) (s .gives)) ∙ sym (c .before .sep-below .ensures) ∙ c .if3 .taken);
+    }
+
+returns-4 : tie.Need-returns-4
+unfolding sepBytes SepFits
+returns-4 c =
+    let a = c .before .before .before .before .before .before .before .before .args in
+    let s = c .before .before .shortest .ensures in
+    record {
+      fits = tt;
+      gives = sep-reaches (a .a .now) (a .b .now) (sym (c .before .before .before .before .below .ensures) ∙ not-false _ (c .before .before .before .if2 .left))
+          (sym (ap (λ l. bytesBelow l (a .b .now)) (s .gives)) ∙ sym (c .before .sep-below .ensures) ∙ c .if3 .left);
+    }
+
+pub plan-spec : {M : Type 1} → statement M
+plan-spec =
+    tie.close
+    (tie.spec
+    returns
+    below-requires
+    returns-2
+    shortest-requires
+    sep-below-requires
+    returns-3
+    returns-4)
