@@ -5,10 +5,14 @@ use mathlib.Core.List.{List, [], _∷_, _++_}
 use mathlib.Core.Bool.{Bool, true}
 use mathlib.Core.Option.{some, Option·some-inj}
 use lib.Dec.{T}
-use Rattle.codec.proofs.Prelude.{both, true-is}
+use Rattle.codec.proofs.Lists.{All, Pairs, all-imp}
+use Rattle.codec.proofs.Prelude.{both, true-is, and-l, and-r}
 use Rattle.codec.proofs.MaybeLaws.{getting, giving, gets, gives}
+use Rattle.keys.specs.Order.{pointOf, below}
+use Rattle.keys.proofs.OrderLaws.{_≺_, ≺-trans}
 use Rattle.block.specs.Block.{Pair, lastKeyOf, Entry, pairsOf, Block, block}
 use Rattle.block.specs.Formed.{Kind, entryFits, all, enough, wellFormed, rises}
+use Rattle.block.proofs.ReadLaws.{EntryBefore}
 
 pub record FormedRead (kind : Kind) (s : List ℕ) (es : List Entry) : Type 0 where
   pub whole : Block
@@ -43,3 +47,14 @@ pub rises-more : (less : List ℕ → List ℕ → Bool) (p : Pair) (ps : List P
 unfolding rises lastKeyOf
 rises-more less p [] q h e = rw e
 rises-more less p (r ∷ ps) q h e = let (h1, h2) = both (less (p .key) (r .key)) (rises less (r ∷ ps)) h in rw h1 (rises-more less r ps q h2 e)
+
+-- entries that rise are in order, each before all that come after it
+pub rises-pairs : (es : List Entry) → T (rises below (pairsOf es)) → Pairs EntryBefore es
+unfolding rises below
+rises-pairs [] r = Pairs.nil
+rises-pairs (a ∷ []) r = Pairs.cons All.nil Pairs.nil
+rises-pairs (a ∷ b ∷ es) r =
+    step (record { is = and-l (below (a .key) (b .key)) (rises below (pairsOf (b ∷ es))) r }) (rises-pairs (b ∷ es) (and-r (below (a .key) (b .key)) (rises below (pairsOf (b ∷ es))) r))
+  where
+    step : pointOf (a .key) ≺ pointOf (b .key) → Pairs EntryBefore (b ∷ es) → Pairs EntryBefore (a ∷ b ∷ es)
+    step h (Pairs.cons q qs) = Pairs.cons (All.cons h (all-imp (λ x s. ≺-trans h s) q)) (Pairs.cons q qs)

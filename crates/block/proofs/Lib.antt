@@ -4,3 +4,9 @@ pub mod CountLaws
 pub mod FormedLaws
 pub mod BuilderCode
 pub mod BuilderLaws
+pub mod EntryLaws
+pub mod LayoutLaws
+pub mod WalkLaws
+pub mod FilledLaws
+pub mod FoundLaws
+pub mod SeekLaws

@@ -1,8 +1,8 @@
 -- The filter block as the code goes: each test that decides whether a key may match, and whether the block is well formed.
 use Prim.Native.Nat.{ℕ, suc, _+_, _*_, _-_, _/_, _%_, _^_, _≤_, _<_}
-use mathlib.Core.Path.{_≡_, refl, sym}
+use mathlib.Core.Path.{_≡_, sym}
 use mathlib.Core.List.{List, _∷_}
-use mathlib.Core.Bool.{Bool, true, false, _&&_}
+use mathlib.Core.Bool.{true, false, and-false}
 use native.Mathlib.Omega.{arith}
 use lib.Dec.{leb}
 use lib.ListN.{length, take, drop, getD}
@@ -63,10 +63,6 @@ module _ (s : List ℕ) (offset h : ℕ) where
             ))
 
 -- ---- whether it is well formed
-
-and-false : (p : Bool) → p && false ≡ false
-and-false true = refl
-and-false false = refl
 
 module _ (s : List ℕ) where
   pub formed-short : length s < 5 → false ≡ filterFormed s

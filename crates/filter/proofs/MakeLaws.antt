@@ -1,6 +1,6 @@
 -- Making filters and writing the block, as the code goes: what fits, what the two runs then hold, and the four parts of the block.
 use Prim.Native.Nat.{ℕ, zero, suc, _+_, _*_, _-_, _%_, _^_, _≤_, _<_, min}
-use mathlib.Core.Path.{_≡_, refl, sym, ap, ap₂, _∙_}
+use mathlib.Core.Path.{_≡_, refl, sym, ap, _∙_}
 use mathlib.Core.List.{List, [], _∷_, _++_, append-assoc, append-nil}
 use mathlib.Core.Bool.{Bool, true, false, _&&_}
 use native.Mathlib.Nat.{add-zero}
@@ -13,9 +13,9 @@ use Rattle.codec.specs.declared.put.Written.{Written}
 use Rattle.codec.specs.declared.put.Written.the-variants.{At}
 use Rattle.codec.specs.Bytes.{bytesOf, fours}
 use Rattle.codec.specs.Put.{room, put, Wrote}
-use Rattle.codec.proofs.BytesLaws.{bytes-length, fours-length}
+use Rattle.codec.proofs.BytesLaws.{bytes-length, bytes-low, fours-length}
 use Rattle.codec.proofs.Prelude.{split, both}
-use Rattle.codec.proofs.PutLaws.{answer-room, put-sets, put-length, wrote-sets, wrote-then}
+use Rattle.codec.proofs.PutLaws.{answer-room, put-sets, put-nil, put-length, wrote-sets, wrote-then}
 use Rattle.filter.specs.declared.filter_block.Made.the-variants.{Filters, NoRoom}
 use Rattle.filter.specs.FilterBlock.{Filtering, filterFor, madeBytes, starts, filterBlockOf}
 use Rattle.filter.specs.FilterCount.{filterBytesOf}
@@ -101,10 +101,6 @@ module _ (c : Filtering) where
   unfolding starts
   starts-first at hs k = rw (starts-empties (at + length (filterFor c hs)) k)
 
--- nothing written is nothing changed
-put-nothing : (d : List ℕ) (at : ℕ) → at ≤ length d → d ≡ put d at []
-put-nothing d at h = sym (put-sets d at [] (omega arith))
-
 module _ (c : Filtering) (hs : List ℕ) (bytes made n : ℕ) (f o : List ℕ) where
   -- the hashes of the filters to make
   abbrev gs : List (List ℕ)
@@ -123,7 +119,7 @@ module _ (c : Filtering) (hs : List ℕ) (bytes made n : ℕ) (f o : List ℕ) w
     none-made e =
         let w = fits-yes (length f) bytes 0 (length o) made 0 t said e in
         let g = groups-none made n hs h in
-        made-so c gs bytes made f o bytes made f o (room-none ∙ e) (rw g (omega arith)) (rw g (omega arith)) (rw g (put-nothing f bytes (omega arith))) (rw g (put-nothing o made (omega arith)))
+        made-so c gs bytes made f o bytes made f o (room-none ∙ e) (rw g (omega arith)) (rw g (omega arith)) (rw g (sym (put-nil f bytes))) (rw g (sym (put-nil o made)))
 
   module _ (h : made < n) (l : length f < 2 ^ 63) (more : ℕ) (e : more ≡ min (filterBytesOf c (length hs)) (2 ^ 63 + 1)) (t : Bool) (said : t ≡ fitting (length f) bytes more (length o) made (n - made)) where
     -- that is, all hashes and then empty ones
@@ -164,12 +160,6 @@ wrote-behind : (d : List ℕ) (at : ℕ) (bs cs : List ℕ) (next : ℕ) (r : Wr
     → at + length bs + length cs ≤ length d → next ≡ at + length bs → Wrote d at bs r e → Wrote e next cs r′ e′ → Wrote d at (bs ++ cs) r′ e′
 wrote-behind d at bs cs next r e r′ e′ h n w v = wrote-then d at bs cs next r e r′ e′ h w (w .said ∙ answer-room d at bs (omega arith) ∙ ap At (sym n)) v
 
--- 4 bytes of a number are those of its low 32 bits
-low-four : (x : ℕ) → bytesOf 4 (x % 2 ^ 32) ≡ bytesOf 4 x
-unfolding bytesOf
-low-four x =
-    ap₂ _∷_ (omega arith) (ap₂ _∷_ (omega arith) (ap₂ _∷_ (omega arith) (ap (λ (n : ℕ). n ∷ []) (omega arith))))
-
 -- the filters, their starts, where these begin, and the base log
 pub wrote-block : (d : List ℕ) (at : ℕ) (fs os : List ℕ) (r₁ : Written) (e₁ : List ℕ) (r₂ : Written) (e₂ : List ℕ) (r₃ : Written) (e₃ : List ℕ)
     → at + length fs + 4 * length os + 5 ≤ length d → Wrote d at fs r₁ e₁ → Wrote e₁ (at + length fs) (fours os) r₂ e₂
@@ -183,7 +173,7 @@ wrote-block d at fs os r₁ e₁ r₂ e₂ r₃ e₃ h w₁ w₂ w₃ =
     let b = bytes-length 4 (length fs) in
     let m = length-append fs (fours os) in
     let n = length-append (fs ++ fours os) bs in
-    let v₃ : Wrote e₂ end bs r₃ e₃ = rw (low-four (length fs)) at w₃ in
+    let v₃ : Wrote e₂ end bs r₃ e₃ = rw (bytes-low (length fs)) at w₃ in
     let two = wrote-behind d at fs (fours os) (at + length fs) r₁ e₁ r₂ e₂ (omega arith) refl w₁ w₂ in
     let three = wrote-behind d at (fs ++ fours os) bs end r₂ e₂ r₃ e₃ (omega arith) (omega arith) two v₃ in
     let z : length e₃ ≡ length d = ap length (three .left) ∙ put-length d at (fs ++ fours os ++ bs) in

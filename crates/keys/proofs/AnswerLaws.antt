@@ -9,9 +9,12 @@ use borrow.Author.Tests.{lt-ltb, le-ltb}
 use Rattle.codec.specs.declared.fixed.U64Read.the-variants.{Value, Bad}
 use Rattle.codec.specs.Answers.{u64Answer}
 use Rattle.codec.specs.Bytes.{part, bytesOf, numberOf, numberAt}
+use Rattle.codec.specs.declared.put.Written.{Written}
+use Rattle.codec.specs.Put.{Wrote}
 use Rattle.codec.proofs.Lists.{Below, below-drop}
 use Rattle.codec.proofs.BytesLaws.{bytes-above}
 use Rattle.codec.proofs.FixedLaws.{number-in}
+use Rattle.keys.specs.declared.cmp.Ordering as OrderingEnum
 use Rattle.keys.specs.declared.cmp.Ordering.the-variants.{Less, Equal, Greater}
 use Rattle.keys.specs.declared.key_types.KeyRead.the-variants.{Key, TooShort}
 use Rattle.keys.specs.declared.key_types.ValueType.the-variants.{TypeValue}
@@ -52,8 +55,9 @@ module _ (k w : List ℕ) (s : ℕ) {u : List ℕ} (isU : u ≡ userOf k) where
   unfolding orderAnswer
   target-greater e = by-word (greater-is (byBytes u w) e)
 
-  pub target-equal : orderAnswer (byBytes u w) ≡ Equal → {t : ℕ} → t ≡ tagOf k → orderAnswer (compare s (t / 256)) ≡ orderAnswer (byPoint (pointOf k) (record { word = w; edition = s }))
-  target-equal e q = rw q (by-word (equal-is (byBytes u w) e))
+  pub target-equal : {t : ℕ} {r : OrderingEnum.Ordering} → orderAnswer (byBytes u w) ≡ Equal → t ≡ tagOf k → r ≡ orderAnswer (compare s (t / 256))
+      → r ≡ orderAnswer (byPoint (pointOf k) (record { word = w; edition = s }))
+  target-equal e q p = p ∙ rw q (by-word (equal-is (byBytes u w) e))
 
 -- ---- kinds
 
@@ -120,6 +124,9 @@ module _ (k : List ℕ) where
     key-long = rw (le-ltb (length k) 8 long, keyAnswer)
 
 -- ---- what is written
+
+pub wrote-as : {d : List ℕ} {at : ℕ} {bs cs : List ℕ} {r : Written} {e : List ℕ} → bs ≡ cs → Wrote d at bs r e → Wrote d at cs r e
+wrote-as q w = rw q at w
 
 -- a tag's sequence, cut to its low 56 bits
 pub tag-bytes : (s kind : ℕ) → bytesOf 8 (s % 2 ^ 56 * 256 + kind) ≡ bytesOf 8 (s * 256 + kind)

@@ -5,7 +5,7 @@ use mathlib.Core.Logic.{_⊎_, inl, inr}
 use mathlib.Core.List.{List, [], _∷_}
 use mathlib.Core.Bool.{Bool, true, false, not}
 use native.Mathlib.Omega.{arith}
-use lib.Dec.{T, isLe, leb, isEq, eqb→eq, leb→le, le→leb, nleb→lt, T-not}
+use lib.Dec.{T, isLe, leb, isEq, eqb→eq, leb→le, le→leb, T-not}
 use Rattle.codec.proofs.Prelude.{is-true, is-false}
 use Rattle.keys.specs.Order.{andThen, isLess, byBytes, Point, pointOf, byPoint, below}
 
@@ -158,14 +158,6 @@ point-joins a b c =
     (rw (compare-turned (a .edition) (b .edition), compare-turned (b .edition) (c .edition), compare-turned (a .edition) (c .edition))
     (joins-turned (compare (a .edition) (b .edition)) (compare (b .edition) (c .edition)) (compare (a .edition) (c .edition)) (compare-joins (a .edition) (b .edition) (c .edition))))
 
-pub point-eq : (a b : Point) → byPoint a b ≡ Ordering·eq → a ≡ b
-unfolding byPoint
-point-eq a b e =
-    let p = then-eq (byBytes (a .word) (b .word)) (compare (b .edition) (a .edition)) e in
-    let w = bytes-eq (a .word) (b .word) (p .0) in
-    let s = sym (compare-eq (b .edition) (a .edition) (p .1)) in
-    λ i. record { word = w i; edition = s i }
-
 pub point-same : (a : Point) → byPoint a a ≡ Ordering·eq
 unfolding byPoint
 point-same a = rw (bytes-same (a .word), compare-same (a .edition))
@@ -204,9 +196,6 @@ upTo-upTo Ordering·eq p q j s t = rw j t
 less-is-upTo : (o : Ordering) → T (isLess o) → T (not (isLess (turned o)))
 less-is-upTo Ordering·lt s = tt
 
-not-less-turned : (o : Ordering) → T (isLess o) → T (isLess (turned o)) → ⊥
-not-less-turned Ordering·lt s t = t
-
 module _ {A : Type 0} {by : A → A → Ordering} (laws : Lawful by) where
   pub less-trans : {a b c : A} → Less by a b → Less by b c → Less by a c
   less-trans {a} {b} {c} s t = record { is = less-less (by a b) (by b c) (by a c) (laws .join a b c) (s .is) (t .is) }
@@ -228,12 +217,6 @@ module _ {A : Type 0} {by : A → A → Ordering} (laws : Lawful by) where
 
   pub less-upTo : {a b : A} → Less by a b → UpTo by a b
   less-upTo {a} {b} s = record { is = rw (laws .turn a b) (less-is-upTo (by a b) (s .is)) }
-
-  pub less-asym : {a b : A} → Less by a b → Less by b a → ⊥
-  less-asym {a} {b} s t = not-less-turned (by a b) (s .is) (rw (laws .turn a b) at (t .is))
-
-  pub less-irrefl : {a : A} → Less by a a → ⊥
-  less-irrefl s = less-asym s s
 
   pub same-upTo : {a b : A} → by a b ≡ Ordering·eq → UpTo by a b
   same-upTo {a} {b} e = record { is = rw (laws .turn a b, e) tt }
@@ -300,9 +283,6 @@ less-turned Ordering·lt = refl
 less-turned Ordering·eq = refl
 less-turned Ordering·gt = refl
 
-pub compare-less : (x y : ℕ) → T (isLess (compare x y)) → x < y
-compare-less x y t = nleb→lt y x (rw (less-turned (compare x y), ← compare-turned x y) at t)
-
 twice-not : (t : Bool) → not (not t) ≡ t
 twice-not true = refl
 twice-not false = refl
@@ -320,9 +300,6 @@ upTo-compare x y h = rw (upTo-leb x y) (le→leb x y h)
 by-edition : (a b : Point) → a .word ≡ b .word → byPoint a b ≡ compare (b .edition) (a .edition)
 unfolding byPoint
 by-edition a b u = rw (u, bytes-same (b .word))
-
-pub ≺-edition : {a b : Point} → a .word ≡ b .word → a ≺ b → b .edition < a .edition
-≺-edition {a} {b} u s = compare-less (b .edition) (a .edition) (rw (by-edition a b u) at (s .is))
 
 pub ≼-edition : {a b : Point} → a .word ≡ b .word → a ≼ b → b .edition ≤ a .edition
 ≼-edition {a} {b} u s = compare-upTo (b .edition) (a .edition) (rw (by-edition b a (sym u)) at (s .is))

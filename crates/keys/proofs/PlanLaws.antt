@@ -2,7 +2,7 @@
 use Prim.Native.Nat.{ℕ, zero, suc, _+_, _-_, _≤_, _<_, min, compare, Ordering, Ordering·lt, Ordering·eq, Ordering·gt}
 use mathlib.Core.Path.{_≡_, refl, sym, ap, ap₂, _∙_}
 use mathlib.Core.List.{List, [], _∷_, _++_, append-assoc}
-use mathlib.Core.Bool.{true, false, _&&_}
+use mathlib.Core.Bool.{Bool, true, false, _&&_}
 use mathlib.Core.Option.{Option, none, some, Option·map}
 use native.Mathlib.Numerals.{add-one}
 use native.Mathlib.Omega.{arith}
@@ -11,8 +11,6 @@ use lib.ListN.{length, take, drop, getD, length-append, length-take, length-drop
 use lib.Seq.{take-append-seam, drop-append-seam, drop-cons, take-suc, split-at, take-length, drop-length}
 use borrow.Author.Tests.{lt-ltb, le-ltb, eq-eqb, ne-eqb}
 use Rattle.codec.specs.Bytes.{part}
-use Rattle.codec.specs.declared.put.Written.{Written}
-use Rattle.codec.specs.Put.{Wrote}
 use Rattle.codec.proofs.Prelude.{split}
 use Rattle.codec.proofs.BytesLaws.{part-length, part-rest}
 use Rattle.keys.specs.declared.cmp.Found.{Found}
@@ -87,7 +85,7 @@ module _ (a : List ℕ) (i n : ℕ) (fits : Raisable a i n) where
   raised-length =
       omega (arith, length-append (take i a) ((getD a i 0 + 1) ∷ part a (i + 1) (n - (i + 1))), length-take i a, part-length a (i + 1) (n - (i + 1)) (omega arith))
 
-  pub raised-above : bytesBelow a (raised a i n) ≡ true
+  raised-above : bytesBelow a (raised a i n) ≡ true
   unfolding raised
   raised-above =
       ap (λ (l : List ℕ). bytesBelow l (raised a i n)) (split-at a i 0 (omega arith))
@@ -214,24 +212,25 @@ unfolding userSep
 sep-above [] b h = refl
 sep-above (x ∷ a) b h = rw (h, userSep)
 
+-- the key itself where a test fails
+abbrev sep-or : List ℕ → List ℕ → Bool → List ℕ
+sep-or s a t = elim t [ true ↦ s | false ↦ a ]
+
 pub sep-reaches : (a b : List ℕ) → bytesBelow a b ≡ true → bytesBelow (shortestSep a b) b ≡ false → a ≡ userSep a b
 unfolding userSep
 sep-reaches [] b h k = refl
-sep-reaches (x ∷ a) b h k = rw (h, k, userSep)
+sep-reaches (x ∷ a) b h k = sym (ap (sep-or (shortestSep (x ∷ a) b) (x ∷ a)) (ap₂ _&&_ h k))
 
 pub sep-shortest : (a b : List ℕ) → 0 < length a → bytesBelow a b ≡ true → bytesBelow (shortestSep a b) b ≡ true → shortestSep a b ≡ userSep a b
 unfolding userSep
 sep-shortest [] b l h k = absurd (omega arith)
-sep-shortest (x ∷ a) b l h k = rw (h, k, userSep)
+sep-shortest (x ∷ a) b l h k = sym (ap (sep-or (shortestSep (x ∷ a) b) (x ∷ a)) (ap₂ _&&_ h k))
 
 -- ---- what a plan says
 
 pub fits-raised : {a : List ℕ} {s : Sep} {i n : ℕ} → SepFits a s → s ≡ Raised i n → Raisable a i n
 unfolding SepFits
 fits-raised f e = rw e at f
-
-pub wrote-as : {d : List ℕ} {at : ℕ} {bs cs : List ℕ} {r : Written} {e : List ℕ} → bs ≡ cs → Wrote d at bs r e → Wrote d at cs r e
-wrote-as q w = rw q at w
 
 -- ---- separators of internal keys
 

@@ -1,7 +1,8 @@
 -- `keys::cmp::find_short_succ` meets its contract.
 use mathlib.Core.Path.{sym, _∙_}
 use lib.Seq.{length-take-le}
-use Rattle.keys.proofs.PlanLaws.{wrote-as, succ-here, succ-ended}
+use Rattle.keys.proofs.AnswerLaws.{wrote-as}
+use Rattle.keys.proofs.PlanLaws.{succ-here, succ-ended}
 use borrow.Author.Needs.{needs}
 use native.Mathlib.Omega.{arith}
 use Rattle.keys.proofs.cmp.find_short_succ.Statement.{statement}

@@ -4,7 +4,7 @@ use Rattle.codec.proofs.PutLaws.{wrote-full, wrote-never, wrote-then}
 use Rattle.codec.proofs.BytesLaws.{bytes-length}
 use Rattle.keys.specs.Order.{internal}
 use Rattle.keys.proofs.KeyLaws.{internal-length}
-use Rattle.keys.proofs.AnswerLaws.{tag-bytes}
+use Rattle.keys.proofs.AnswerLaws.{wrote-as, tag-bytes}
 use borrow.Author.Needs.{needs}
 use native.Mathlib.Omega.{arith}
 use Rattle.keys.proofs.key_types.build_internal_key.Statement.{statement}
@@ -63,7 +63,7 @@ unfolding internal
 returns-5 c =
     let a = c .before .before .before .before .before .before .before .before .before .before .before .before .before .before .before .before .args in
     wrote-then _ _ _ _ _ _ _ _ _ (omega (arith, bytes-length 8 (a .sequence * 256 + a .kind))) (c .before .before .before .before .before .before .before .before .before .put-bytes .ensures) (c .before .before .before .before .before .next .given .1)
-    (rw (tag-bytes (a .sequence) (a .kind)) at (c .before .before .write-u64 .ensures))
+    (wrote-as (tag-bytes (a .sequence) (a .kind)) (c .before .before .write-u64 .ensures))
 
 pub build-internal-key-spec : {M : Type 1} → statement M
 build-internal-key-spec =

@@ -33,7 +33,9 @@ returns-2 : tie.Need-returns-2
 returns-2 c = target-greater _ _ _ (c .before .before .before .user-key .ensures) (sym (c .before .before .cmp .ensures) ∙ c .enum-told2 .given .1)
 
 returns-3 : tie.Need-returns-3
-returns-3 c = c .order .ensures ∙ target-equal _ _ _ (c .before .before .before .before .before .user-key .ensures) (sym (c .before .before .before .before .cmp .ensures) ∙ c .before .before .enum-told3 .given .1) (c .before .tag-of .ensures)
+returns-3 c =
+    let a = c .before .before .before .before .before .before .before .before .args in
+    target-equal (a .key .now) (a .word .now) (a .sequence) (c .before .before .before .before .before .user-key .ensures) (sym (c .before .before .before .before .cmp .ensures) ∙ c .before .before .enum-told3 .given .1) (c .before .tag-of .ensures) (c .order .ensures)
 
 pub cmp-target-spec : {M : Type 1} → statement M
 cmp-target-spec =

@@ -1,0 +1,99 @@
+-- What reading a block answers and leaves in the key buffer: by meaning on blocks that can be read, and inside on any bytes.
+use Prim.Native.Nat.{ℕ, _+_, _≤_}
+use mathlib.Core.Path.{_≡_}
+use mathlib.Core.List.{List, [], _∷_, head?}
+use mathlib.Core.Bool.{Bool, true, false, not}
+use mathlib.Core.Option.{Option, none, some}
+use lib.Dec.{eqb, leb}
+use lib.ListN.{length}
+use Rattle.codec.specs.Maybe.{_>>=_, ask, first}
+use Rattle.codec.specs.Put.{put}
+use Rattle.keys.specs.Order.{Point, pointOf, byPoint, isLess, below}
+use Rattle.block.specs.declared.block.EntryRead.{EntryRead}
+use Rattle.block.specs.declared.block.EntryRead.the-variants as EntryCase
+use Rattle.block.specs.declared.block.Found.{Found}
+use Rattle.block.specs.declared.block.Found.the-variants as FoundCase
+use Rattle.block.specs.declared.block.Kind as KindEnum
+use Rattle.block.specs.declared.block.Kind.the-variants as KindCase
+use Rattle.block.specs.Block.{Pair, Entry, pairsOf, block}
+use Rattle.block.specs.Formed.{Kind, dataBlock, indexBlock, metaBlock, all, rises}
+
+-- the code's kind of a block, as the definitions name it
+unfoldable pub kindOf : KindEnum.Kind → Kind
+kindOf KindCase.Data = dataBlock
+kindOf KindCase.Index = indexBlock
+kindOf KindCase.Metaindex = metaBlock
+
+-- ---- one entry
+
+-- an entry read from the rest of a block: how much it shares, how long its key is, where in the rest its value starts, and how long that is;
+-- none where the key buffer, of n bytes, has no room for its key
+unfoldable pub entryAnswer : ℕ → Option Entry → EntryRead
+entryAnswer n none = EntryCase.Bad
+entryAnswer n (some e) =
+    elim (leb (length (e .key)) n) [ true ↦ EntryCase.Entry (e .shared) (length (e .key)) (e .valueAt) (length (e .value)) | false ↦ EntryCase.Bad ]
+
+-- the key buffer then: the key at its front, the rest as it was; all as it was without an entry or without room
+unfoldable pub keyLeft : List ℕ → Option Entry → List ℕ
+keyLeft k none = k
+keyLeft k (some e) = put k 0 (e .key)
+
+-- ---- a whole block
+
+-- the entries of a well-formed block whose keys have at most 1,032 bytes
+unfoldable pub readable : List ℕ → Option (List Entry)
+readable s = do
+  b ← block s
+  _ ← ask (all (λ (p : Pair). leb (length (p .key)) 1032) (pairsOf (b .entries)))
+  some (b .entries)
+
+-- an entry is not below a target
+unfoldable pub reaches : Point → Entry → Bool
+reaches p e = not (isLess (byPoint (pointOf (e .key)) p))
+
+-- seek: the first entry not below a target
+unfoldable pub seekIn : Point → List Entry → Option (Option Entry)
+seekIn p es = some (first (reaches p) es)
+
+-- the first entry
+unfoldable pub firstIn : List Entry → Option (Option Entry)
+firstIn es = some (head? es)
+
+-- what comes after the entry at a place; nothing where no entry starts there
+unfoldable pub nextIn : ℕ → List Entry → Option (Option Entry)
+nextIn at [] = none
+nextIn at (e ∷ es) = elim (eqb (e .start) at) [ true ↦ some (head? es) | false ↦ nextIn at es ]
+
+-- the answer: an entry, none, or that no entry starts at the place
+unfoldable pub foundAnswer : Option (Option Entry) → Found
+foundAnswer none = FoundCase.NoPlace
+foundAnswer (some none) = FoundCase.None
+foundAnswer (some (some e)) = FoundCase.Entry (e .start) (length (e .key)) (e .valueAt) (length (e .value))
+
+-- and the key buffer
+unfoldable pub bufferLeft : List ℕ → Option (Option Entry) → List ℕ
+bufferLeft k none = k
+bufferLeft k (some o) = keyLeft k o
+
+-- entries that rise
+unfoldable pub inOrder : List Entry → Bool
+inOrder es = rises below (pairsOf es)
+
+-- entries in any order
+unfoldable pub anyOrder : List Entry → Bool
+anyOrder es = true
+
+-- on any bytes: an entry's value lies in the block, and the buffer has a key at its front; else the buffer is as it was
+abbrev pub Inside : List ℕ → List ℕ → Found → List ℕ → Type 0
+Inside s k (FoundCase.Entry start n at len) k′ =
+    (at + len ≤ length s) × (n ≤ 1032) × (n ≤ length k) × ((x : List ℕ) × (length x ≡ n) × (k′ ≡ put k 0 x))
+Inside s k FoundCase.None k′ = k′ ≡ k
+Inside s k FoundCase.NoPlace k′ = k′ ≡ k
+Inside s k FoundCase.Bad k′ = k′ ≡ k
+
+-- reading a block s with a key buffer k answers r and leaves k′: what is said of its entries, where it is readable, they are ordered so and the buffer has
+-- 1,032 bytes or more
+pub record Said (s : List ℕ) (says : List Entry → Option (Option Entry)) (ordered : List Entry → Bool) (k : List ℕ) (r : Found) (k′ : List ℕ) : Type 0 where
+  pub answer : (es : List Entry) → readable s ≡ some es → ordered es ≡ true → 1032 ≤ length k → r ≡ foundAnswer (says es)
+  pub buffer : (es : List Entry) → readable s ≡ some es → ordered es ≡ true → 1032 ≤ length k → k′ ≡ bufferLeft k (says es)
+  pub inside : Inside s k r k′
