@@ -16,6 +16,7 @@ use codec::fixed::U32Read;
 use codec::put::Written;
 use codec::varint::VarintRead;
 use keys::cmp::Ordering;
+use keys::cmp::least;
 
 pub enum Kind {
     Data,
@@ -149,12 +150,6 @@ fn head_after(rest: &[u8], n: usize) -> HeadRead
             }
         }
     }
-}
-
-fn least(a: usize, b: usize) -> usize
-    ensures { λ r. ⌜ r ≡ min a b ⌝ }
-{
-    if a < b { a } else { b }
 }
 
 // The entry that starts the rest of a block's entries, after the key that is the first key_len bytes of key. Its own key then

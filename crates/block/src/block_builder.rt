@@ -19,6 +19,7 @@ use codec::put::put_bytes;
 use codec::varint::varint_len;
 use codec::varint::write_varint;
 use keys::cmp::common_len;
+use keys::cmp::least;
 
 // The largest number.
 const MOST: usize = 18446744073709551615;
@@ -55,12 +56,6 @@ enum Plan {
         since: usize,
     },
     Full,
-}
-
-fn least(a: usize, b: usize) -> usize
-    ensures { λ r. ⌜ r ≡ min a b ⌝ }
-{
-    if a < b { a } else { b }
 }
 
 // How many restarts a block is written with, that has n of them: one at least.
