@@ -138,15 +138,15 @@ from-less : (a b : ℕ) (rs : List ℕ) → a ≤ b → From b rs → From a rs
 from-less a b [] h k = tt
 from-less a b (r ∷ rs) h k = omega arith
 
-restarts-from : (i n : ℕ) (before : List ℕ) (at : ℕ) (ps : List Pair) → From at (restartsOf i n before at ps)
+restarts-begin : (i n : ℕ) (before : List ℕ) (at : ℕ) (ps : List Pair) → From at (restartsOf i n before at ps)
 unfolding restartsOf
-restarts-from i n before at [] = tt
-restarts-from i n before at (p ∷ ps) =
+restarts-begin i n before at [] = tt
+restarts-begin i n before at (p ∷ ps) =
     let after = at + length (entryBytes (sharing i n before (p .key)) p) in
     let more = restartsOf i (since i n) (p .key) after ps in
     test (eqb n i)
     (λ e. rw (restartsOf, e) (omega arith))
-    (λ e. rw (restartsOf, e) (from-less at after more (omega arith) (restarts-from i (since i n) (p .key) after ps)))
+    (λ e. rw (restartsOf, e) (from-less at after more (omega arith) (restarts-begin i (since i n) (p .key) after ps)))
 
 skip : (rs : List ℕ) (e : Entry) (es : List Entry) → From (suc (e .start)) rs → restartsStand rs es ≡ true → restartsStand rs (e ∷ es) ≡ true
 unfolding restartsStand
@@ -173,17 +173,13 @@ restarts-stand i n before at (p ∷ ps) =
     let more = restartsOf i (since i n) (p .key) after ps in
     test (eqb n i)
     (λ e. rw (restartsOf, e) (stands at more (entryOf at s p) (planned i (since i n) (p .key) after ps) refl (restart-shares i n before (p .key) e) ih))
-    (λ e. rw (restartsOf, e) (skip more (entryOf at s p) _ (from-less (suc at) after more far (restarts-from i (since i n) (p .key) after ps)) ih))
+    (λ e. rw (restartsOf, e) (skip more (entryOf at s p) _ (from-less (suc at) after more far (restarts-begin i (since i n) (p .key) after ps)) ih))
 
 -- the first entry is a restart by the ordinary rule
 pub first-restart : (i : ℕ) (p : Pair) (ps : List Pair)
     → restartsOf i i [] 0 (p ∷ ps) ≡ 0 ∷ restartsOf i (since i i) (p .key) (0 + length (entryBytes (sharing i i [] (p .key)) p)) ps
 unfolding restartsOf
 first-restart i p ps = rw (restartsOf, eq-eqb i i refl)
-
-zero-first : (rs : List ℕ) (e : Entry) (es : List Entry) → restartsStand (0 ∷ rs) (e ∷ es) ≡ true → firstIsZero (0 ∷ rs) (e ∷ es) ≡ true
-unfolding firstIsZero
-zero-first rs e es h = h
 
 first-zero : (i : ℕ) (ps : List Pair) → firstIsZero (orZero (restartsOf i i [] 0 ps)) (planned i i [] 0 ps) ≡ true
 unfolding orZero

@@ -186,14 +186,14 @@ full-by : (t : Bool) (s x y z : ℕ) → cond t (Entry s x y z) Full ≡ Full �
 full-by true s x y z e = absurd (never-full s x y z e)
 full-by false s x y z e = refl
 
-entry-by : (t : Bool) (s x y z s′ : ℕ) (c : BlockCount) → cond t (Entry s′ (c .bytes) (c .restarts) (c .since)) Full ≡ Entry s x y z
+entry-planned : (t : Bool) (s x y z s′ : ℕ) (c : BlockCount) → cond t (Entry s′ (c .bytes) (c .restarts) (c .since)) Full ≡ Entry s x y z
     → (t ≡ true) × (s ≡ s′) × (record { bytes = x; restarts = y; since = z; last = c .last } ≡ c)
-entry-by true s x y z s′ c e =
+entry-planned true s x y z s′ c e =
     let p : x ≡ c .bytes = cc in
     let q : y ≡ c .restarts = cc in
     let r : z ≡ c .since = cc in
     (refl, cc, λ i. record { bytes = p i; restarts = q i; since = r i; last = c .last })
-entry-by false s x y z s′ c e = absurd (never-full s x y z (sym e))
+entry-planned false s x y z s′ c e = absurd (never-full s x y z (sym e))
 
 -- a plan of an entry says what it shares and the counts with it
 pub record Planned (b : BlockBuilder) (key : List ℕ) (value s x y z : ℕ) : Type 0 where
@@ -209,7 +209,7 @@ module _ (b : BlockBuilder) (key : List ℕ) (value : ℕ) where
   pub plan-some : {s x y z : ℕ} → planOf (b .interval) (countIn b) key value ≡ Entry s x y z → Planned b key value s x y z
   unfolding planOf countable countIn countEntry
   plan-some {s} {x} {y} {z} e =
-      let r = entry-by (countable b key value) s x y z _ (countEntry (b .interval) (countIn b) key value) e in
+      let r = entry-planned (countable b key value) s x y z _ (countEntry (b .interval) (countIn b) key value) e in
       record { can = r .0; shared = r .1; counts = r .2 }
 
   -- counting answers

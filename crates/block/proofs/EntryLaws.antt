@@ -15,12 +15,12 @@ use Rattle.codec.specs.Answers.{varintAnswer}
 use Rattle.codec.specs.Bytes.{part}
 use Rattle.codec.specs.Maybe.{_>>=_, ask}
 use Rattle.codec.specs.Put.{put}
-use Rattle.codec.specs.Varint.{Read, varint}
+use Rattle.codec.specs.Varint.{varint}
 use Rattle.codec.proofs.BytesLaws.{part-rest, part-between, part-drop, part-length}
 use Rattle.codec.proofs.MaybeLaws.{getting, giving, gets}
 use Rattle.codec.proofs.Prelude.{test}
 use Rattle.codec.proofs.PutLaws.{put-room, put-full}
-use Rattle.codec.proofs.VarintCode.{varint-within}
+use Rattle.codec.proofs.VarintCode.{no-varint, a-varint, varint-within}
 use Rattle.block.specs.declared.block.EntryRead.{EntryRead}
 use Rattle.block.specs.declared.block.EntryRead.the-variants as EntryCase
 use Rattle.block.specs.declared.block.HeadRead.the-variants as HeadCase
@@ -30,18 +30,6 @@ use Rattle.block.specs.Steps.{headAfter, headAnswer, Fresh}
 use Rattle.block.proofs.ReadLaws.{head-size, entry-ends}
 
 -- ---- the three numbers, by the answers on each
-
-no-varint : (o : Option Read) → varintAnswer o ≡ VarintCase.Bad → o ≡ none
-no-varint none e = refl
-no-varint (some r) e = unfold varintAnswer in cc
-
-a-varint : (o : Option Read) {v n : ℕ} → varintAnswer o ≡ VarintCase.Value v n → o ≡ some (record { value = v; size = n })
-a-varint none e = unfold varintAnswer in cc
-a-varint (some r) {v} {n} e =
-    unfold varintAnswer in
-    let p : r .value ≡ v = cc in
-    let q : r .size ≡ n = cc in
-    λ i. some (record { value = p i; size = q i })
 
 -- what is left behind a place, as the code lends it
 abbrev pub after : List ℕ → ℕ → List ℕ
@@ -53,32 +41,32 @@ after-after s a b = part-rest (after s a) b ∙ ap (drop b) (part-rest s a) ∙ 
 module _ (s : List ℕ) where
   pub no-shared : varintAnswer (varint s) ≡ VarintCase.Bad → HeadCase.Bad ≡ headAnswer (head s)
   unfolding headAnswer head _>>=_
-  no-shared e = rw (no-varint (varint s) e)
+  no-shared e = rw (no-varint s e)
 
   module _ {v a : ℕ} (first : varintAnswer (varint s) ≡ VarintCase.Value v a) where
     pub no-fresh : varintAnswer (varint (after s a)) ≡ VarintCase.Bad → HeadCase.Bad ≡ headAnswer (head s)
     unfolding headAnswer head _>>=_
     no-fresh e =
-        let p = a-varint (varint s) first in
-        let q = no-varint (varint (drop a s)) (rw (part-rest s a) at e) in
+        let p = a-varint s first in
+        let q = no-varint (drop a s) (rw (part-rest s a) at e) in
         cc
 
     module _ {w b : ℕ} (second : varintAnswer (varint (after s a)) ≡ VarintCase.Value w b) where
       pub no-value : varintAnswer (varint (after (after s a) b)) ≡ VarintCase.Bad → HeadCase.Bad ≡ headAnswer (head s)
       unfolding headAnswer head _>>=_
       no-value e =
-          let p = a-varint (varint s) first in
-          let q = a-varint (varint (drop a s)) (rw (part-rest s a) at second) in
-          let r = no-varint (varint (drop (a + b) s)) (rw (after-after s a b) at e) in
+          let p = a-varint s first in
+          let q = a-varint (drop a s) (rw (part-rest s a) at second) in
+          let r = no-varint (drop (a + b) s) (rw (after-after s a b) at e) in
           cc
 
       module _ {x c : ℕ} (third : varintAnswer (varint (after (after s a) b)) ≡ VarintCase.Value x c) where
         pub whole-head : HeadCase.Head v w x (a + b + c) ≡ headAnswer (head s)
         unfolding headAnswer head _>>=_
         whole-head =
-            let p = a-varint (varint s) first in
-            let q = a-varint (varint (drop a s)) (rw (part-rest s a) at second) in
-            let r = a-varint (varint (drop (a + b) s)) (rw (after-after s a b) at third) in
+            let p = a-varint s first in
+            let q = a-varint (drop a s) (rw (part-rest s a) at second) in
+            let r = a-varint (drop (a + b) s) (rw (after-after s a b) at third) in
             cc
 
         pub head-fits : a + b + c ≤ length s

@@ -2,7 +2,7 @@
 use Prim.Native.Nat.{ℕ, suc, _+_, _-_, _≤_, _<_, Ordering·eq}
 use mathlib.Core.Path.{_≡_, refl, sym, ap, _∙_}
 use mathlib.Core.List.{List, [], _∷_}
-use mathlib.Core.Bool.{Bool, true, false, _&&_}
+use mathlib.Core.Bool.{Bool, true, false, _&&_, and-true, and-false, and-comm, false≢true}
 use mathlib.Core.Option.{Option, none, some}
 use native.Mathlib.Omega.{arith}
 use lib.Dec.{eqb, leb}
@@ -15,7 +15,7 @@ use Rattle.codec.specs.Bytes.{numbers, sameBytes}
 use Rattle.codec.specs.Maybe.{_>>=_, ask}
 use Rattle.codec.specs.Varint.{Handle, oneHandle}
 use Rattle.codec.proofs.BytesLaws.{part-between, same-same, same-bytes}
-use Rattle.codec.proofs.Prelude.{test, split, false-true, true-is}
+use Rattle.codec.proofs.Prelude.{test, split, true-is}
 use Rattle.keys.specs.declared.cmp.Ordering.the-variants as OrderCase
 use Rattle.keys.specs.Answers.{orderAnswer}
 use Rattle.keys.specs.Order.{byBytes}
@@ -31,34 +31,27 @@ use Rattle.block.specs.Steps.{rowsOf, rowsAnswer, Laid, restartAt, entri
 use Rattle.block.specs.Search.{kindOf, entryAnswer}
 use Rattle.block.proofs.ReadLaws.{entry-start, entry-value}
 use Rattle.block.proofs.EntryLaws.{no-step, Taken}
+use Rattle.block.proofs.FormedLaws.{asPair}
 use Rattle.block.proofs.LayoutLaws.{restarts-from, numbers-length, no-block, block-is, entries-size}
 use Rattle.block.proofs.WalkLaws.{from-end, from-none, from-some}
 
 -- ---- a value that is a handle
 
-pub handle-none : (s : List ℕ) → oneHandleAnswer (oneHandle s) ≡ OneCase.Bad → false ≡ isHandle s
+pub not-handle : (s : List ℕ) → oneHandleAnswer (oneHandle s) ≡ OneCase.Bad → false ≡ isHandle s
 unfolding isHandle oneHandleAnswer
-handle-none s = go (oneHandle s)
+not-handle s = go (oneHandle s)
   where
     go : (o : Option Handle) → oneHandleAnswer o ≡ OneCase.Bad → false ≡ elim o as (λ (_ : Option Handle). Bool) [ none ↦ false | some h ↦ true ]
     go none e = refl
     go (some h) e = cc
 
-pub handle-some : (s : List ℕ) {a b : ℕ} → oneHandleAnswer (oneHandle s) ≡ OneCase.Handle a b → true ≡ isHandle s
+pub one-handle-is : (s : List ℕ) {a b : ℕ} → oneHandleAnswer (oneHandle s) ≡ OneCase.Handle a b → true ≡ isHandle s
 unfolding isHandle oneHandleAnswer
-handle-some s {a} {b} = go (oneHandle s)
+one-handle-is s {a} {b} = go (oneHandle s)
   where
     go : (o : Option Handle) → oneHandleAnswer o ≡ OneCase.Handle a b → true ≡ elim o as (λ (_ : Option Handle). Bool) [ none ↦ false | some h ↦ true ]
     go none e = cc
     go (some h) e = refl
-
-and-false : (b : Bool) → b && false ≡ false
-and-false true = refl
-and-false false = refl
-
-and-true : (b : Bool) → b && true ≡ b
-and-true true = refl
-and-true false = refl
 
 -- ---- a key that is a name, by comparing the two
 
@@ -120,9 +113,6 @@ module _ {kind : KindEnum.Kind} (b : Bool) where
 
 -- ---- one entry
 
-abbrev pairOf : Entry → Pair
-pairOf e = record { key = e .key; value = e .value }
-
 -- the test of entries that were read
 judged : Kind → List ℕ → Option (List Entry) → Bool
 judged kind rs none = false
@@ -157,7 +147,7 @@ module _ (kind : Kind) (d : List ℕ) (at : ℕ) (before : List ℕ) where
       step rs = filled-judged kind d at before rs ∙ ap (judged kind rs) (from-some d at before inside read)
 
       -- an entry outside the limits
-      pub filled-wrong : (rs : List ℕ) → entryFits kind (pairOf e) ≡ false → filledFrom kind d at before rs ≡ false
+      pub filled-wrong : (rs : List ℕ) → entryFits kind (asPair e) ≡ false → filledFrom kind d at before rs ≡ false
       unfolding judged _>>=_ all
       filled-wrong rs f = step rs ∙ go (entriesFrom d (next e) (e .key))
         where
@@ -165,7 +155,7 @@ module _ (kind : Kind) (d : List ℕ) (at : ℕ) (before : List ℕ) where
           go none = refl
           go (some es) = rw f
 
-      module _ (f : entryFits kind (pairOf e) ≡ true) where
+      module _ (f : entryFits kind (asPair e) ≡ true) where
         -- no restart there
         pub filled-past : (rs : List ℕ) → marks at rs ≡ false → filledFrom kind d at before rs ≡ filledFrom kind d (next e) (e .key) rs
         unfolding judged _>>=_ all restartsStand marks
@@ -219,7 +209,7 @@ long-wrong metaBlock p h = rw (within-over 1 (length (p .key)) h)
 -- a restart there is the first of those left
 marked-at : (at : ℕ) (qs : List ℕ) → marks at qs ≡ true → (0 < length qs) × (qs ≡ at ∷ drop 1 qs)
 unfolding marks
-marked-at at [] m = absurd (false-true m)
+marked-at at [] m = absurd (false≢true m)
 marked-at at (q ∷ qs) m = (omega arith, ap (λ (r : ℕ). r ∷ qs) (eqb-true q at m))
 
 -- none was read
@@ -231,7 +221,7 @@ pass-none kind d at before qs {m} inside room b = go (entry at before (drop at d
     go none r = filled-none kind d at before inside qs r
     go (some e) r =
         split 1032 (length (e .key))
-        (λ h. filled-wrong kind d at before inside r qs (long-wrong kind (pairOf e) h))
+        (λ h. filled-wrong kind d at before inside r qs (long-wrong kind (asPair e) h))
         (λ h. absurd (no-step b r (omega arith)))
 
 module _ (kind : Kind) {d : List ℕ} {at : ℕ} {k : List ℕ} {m : ℕ} {k′ : List ℕ} {sh n a v : ℕ} (t : Taken d at k m k′ sh n a v) where
@@ -250,7 +240,7 @@ module _ (kind : Kind) {d : List ℕ} {at : ℕ} {k : List ℕ} {m : ℕ} {k′ 
   abbrev lent : Pair
   lent = record { key = take n k′; value = take (a + v - a) (drop a d) }
 
-  fits-is : entryFits kind lent ≡ entryFits kind (pairOf e)
+  fits-is : entryFits kind lent ≡ entryFits kind (asPair e)
   fits-is = rw (t .key, value-is)
 
   pub pass-wrong : (qs : List ℕ) → entryFits kind lent ≡ false → filledFrom kind d at (take m k) qs ≡ false
@@ -322,12 +312,6 @@ enough-one dataBlock p ps = refl
 enough-one indexBlock p ps = refl
 enough-one metaBlock p ps = refl
 
-and-turned : (a b : Bool) → a && (true && b) ≡ b && a
-and-turned true true = refl
-and-turned true false = refl
-and-turned false true = refl
-and-turned false false = refl
-
 module _ (kind : Kind) (s : List ℕ) (end count : ℕ) (l : Laid s end count) where
   abbrev d : List ℕ
   d = take end s
@@ -338,21 +322,21 @@ module _ (kind : Kind) (s : List ℕ) (end count : ℕ) (l : Laid s end count) w
   size : length d ≡ end
   size = entries-size s l
 
-  formed-whole : isFormed kind s ≡ whole kind rs (entriesFrom d 0 [])
+  formed-is : isFormed kind s ≡ whole kind rs (entriesFrom d 0 [])
   unfolding entriesFrom whole _>>=_
-  formed-whole = formed-verdict kind s ∙ ap (verdict kind) (block-is s l) ∙ go (entriesF (suc end) d 0 []) ∙ ap (λ (n : ℕ). whole kind rs (entriesF (suc n) d 0 [])) (sym size)
+  formed-is = formed-verdict kind s ∙ ap (verdict kind) (block-is s l) ∙ go (entriesF (suc end) d 0 []) ∙ ap (λ (n : ℕ). whole kind rs (entriesF (suc n) d 0 [])) (sym size)
     where
       go : (o : Option (List Entry)) → verdict kind (o >>= (λ es. ask (firstIsZero rs es) >>= (λ _. some (record { entries = es; restarts = rs })))) ≡ whole kind rs o
       go none = refl
       go (some es) = verdict-some kind (firstIsZero rs es) (record { entries = es; restarts = rs })
 
-  first-restart : rs ≡ restartAt s end 0 ∷ drop 1 rs
-  first-restart = restarts-from s end count 0 (l .some-restart)
+  restarts-head : rs ≡ restartAt s end 0 ∷ drop 1 rs
+  restarts-head = restarts-from s end count 0 (l .some-restart)
 
   -- the first restart is not 0
   pub formed-first : (restartAt s end 0 ≡ 0 → ⊥) → false ≡ isFormed kind s
   unfolding whole firstIsZero
-  formed-first h = sym (formed-whole ∙ ap (λ (q : List ℕ). whole kind q (entriesFrom d 0 [])) first-restart ∙ go (entriesFrom d 0 []))
+  formed-first h = sym (formed-is ∙ ap (λ (q : List ℕ). whole kind q (entriesFrom d 0 [])) restarts-head ∙ go (entriesFrom d 0 []))
     where
       go : (o : Option (List Entry)) → whole kind (restartAt s end 0 ∷ drop 1 rs) o ≡ false
       go none = refl
@@ -364,13 +348,13 @@ module _ (kind : Kind) (s : List ℕ) (end count : ℕ) (l : Laid s end count) w
     pub formed-empty : end ≡ 0 → isFormed kind s ≡ eqb count 1 && enough kind []
     unfolding whole firstIsZero all
     formed-empty e =
-        formed-whole ∙ ap (whole kind rs) (from-end d 0 [] (sym (size ∙ e)))
-        ∙ ap (λ (q : List ℕ). whole kind q (some [])) first-restart
+        formed-is ∙ ap (whole kind rs) (from-end d 0 [] (sym (size ∙ e)))
+        ∙ ap (λ (q : List ℕ). whole kind q (some [])) restarts-head
         ∙ rw (eq-eqb (restartAt s end 0) 0 z, one, and-true (enough kind []))
       where
         one : eqb (length (drop 1 rs)) 0 ≡ eqb count 1
         one =
-            let n : length (restartAt s end 0 ∷ drop 1 rs) ≡ count = ap length (sym first-restart) ∙ numbers-length count (drop end s) in
+            let n : length (restartAt s end 0 ∷ drop 1 rs) ≡ count = ap length (sym restarts-head) ∙ numbers-length count (drop end s) in
             test (eqb count 1)
             (λ t. eq-eqb (length (drop 1 rs)) 0 (omega (arith, eqb-true count 1 t)) ∙ sym t)
             (λ t. ne-eqb (length (drop 1 rs)) 0 (λ g. eqb-false count 1 t (omega arith)) ∙ sym t)
@@ -378,11 +362,11 @@ module _ (kind : Kind) (s : List ℕ) (end count : ℕ) (l : Laid s end count) w
     -- with entries
     pub formed-filled : 0 < end → filledFrom kind d 0 [] rs ≡ isFormed kind s
     unfolding whole judged firstIsZero _>>=_
-    formed-filled h = filled-judged kind d 0 [] rs ∙ ap (λ (q : List ℕ). judged kind q (entriesFrom d 0 [])) first-restart ∙ go (entry 0 [] (drop 0 d)) refl ∙ ap (λ (q : List ℕ). whole kind q (entriesFrom d 0 [])) (sym first-restart) ∙ sym formed-whole
+    formed-filled h = filled-judged kind d 0 [] rs ∙ ap (λ (q : List ℕ). judged kind q (entriesFrom d 0 [])) restarts-head ∙ go (entry 0 [] (drop 0 d)) refl ∙ ap (λ (q : List ℕ). whole kind q (entriesFrom d 0 [])) (sym restarts-head) ∙ sym formed-is
       where
         one : (e : Entry) (o : Option (List Entry)) → judged kind (restartAt s end 0 ∷ drop 1 rs) (o >>= (λ es. some (e ∷ es))) ≡ whole kind (restartAt s end 0 ∷ drop 1 rs) (o >>= (λ es. some (e ∷ es)))
         one e none = refl
-        one e (some es) = rw (eq-eqb (restartAt s end 0) 0 z, enough-one kind (pairOf e) (pairsOf es)) (sym (and-turned (restartsStand (restartAt s end 0 ∷ drop 1 rs) (e ∷ es)) (all (entryFits kind) (pairsOf (e ∷ es)))))
+        one e (some es) = rw (eq-eqb (restartAt s end 0) 0 z, enough-one kind (asPair e) (pairsOf es)) (sym (and-comm (restartsStand (restartAt s end 0 ∷ drop 1 rs) (e ∷ es)) (all (entryFits kind) (pairsOf (e ∷ es)))))
 
         go : (o : Option Entry) → entry 0 [] (drop 0 d) ≡ o → judged kind (restartAt s end 0 ∷ drop 1 rs) (entriesFrom d 0 []) ≡ whole kind (restartAt s end 0 ∷ drop 1 rs) (entriesFrom d 0 [])
         go none r = let f = from-none d 0 [] (omega (arith, size)) r in rw f

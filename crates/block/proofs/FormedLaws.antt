@@ -14,6 +14,10 @@ use Rattle.block.specs.Block.{Pair, lastKeyOf, Entry, pairsOf, Block, bl
 use Rattle.block.specs.Formed.{Kind, entryFits, all, enough, wellFormed, rises}
 use Rattle.block.proofs.ReadLaws.{EntryBefore}
 
+-- the key and the value of an entry
+abbrev pub asPair : Entry → Pair
+asPair e = record { key = e .key; value = e .value }
+
 pub record FormedRead (kind : Kind) (s : List ℕ) (es : List Entry) : Type 0 where
   pub whole : Block
   pub reads : block s ≡ some whole

@@ -6,15 +6,15 @@ use mathlib.Core.Bool.{Bool, true, false}
 use mathlib.Core.Option.{Option, none, some, Option·some-inj}
 use native.Mathlib.Omega.{arith}
 use lib.Dec.{eqb, leb, leb→le}
-use lib.ListN.{length, take, drop, length-drop, drop-of-length-le}
-use lib.Seq.{take-all, length-take-le}
+use lib.ListN.{length, take, drop, drop-of-length-le}
+use lib.Seq.{length-take-le}
 use borrow.Author.Tests.{leb-false, le-leb, lt-leb}
 use Rattle.codec.specs.declared.fixed.U32Read.the-variants as U32Case
 use Rattle.codec.specs.Answers.{u32Answer}
 use Rattle.codec.specs.Bytes.{part, numberOf, numberAt, numbers}
 use Rattle.codec.specs.Maybe.{_>>=_, ask}
-use Rattle.codec.proofs.BytesLaws.{part-drop}
-use Rattle.codec.proofs.FixedLaws.{u32-is}
+use Rattle.codec.proofs.BytesLaws.{part-drop, part-end}
+use Rattle.codec.proofs.FixedLaws.{number-read, a-u32}
 use Rattle.codec.proofs.MaybeLaws.{giving, gets}
 use Rattle.block.specs.declared.block.RowsRead.the-variants as RowsCase
 use Rattle.block.specs.Block.{Entry, entriesF, firstIsZero, Block, block}
@@ -29,8 +29,7 @@ module _ (s : List ℕ) where
 
   module _ (long : 4 ≤ length s) {n : ℕ} (e : u32Answer (numberAt 4 s (length s - 4)) ≡ U32Case.Value n) where
     last-is : n ≡ numberOf (drop (length s - 4) s)
-    unfolding part
-    last-is = u32-is s (length s - 4) (omega arith) e ∙ ap numberOf (take-all 4 (drop (length s - 4) s) (omega (arith, length-drop (length s - 4) s)))
+    last-is = number-read 4 s (length s - 4) (omega arith) (a-u32 _ e) ∙ ap numberOf (part-end s (length s - 4) 4 (omega arith))
 
     pub rows-none : n < 1 → RowsCase.Bad ≡ rowsAnswer (rowsOf s)
     unfolding rowsOf rowsAnswer _>>=_ ask

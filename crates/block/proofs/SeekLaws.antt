@@ -22,7 +22,7 @@ use Rattle.block.specs.Block.{Pair, Entry, pairsOf, restartsStand, first
 use Rattle.block.specs.Formed.{all}
 use Rattle.block.specs.Search.{readable, reaches, seekIn, firstIn, nextIn, foundAnswer, bufferLeft, inOrder, anyOrder, Said}
 use Rattle.block.specs.Steps.{rowsOf, rowsAnswer, Laid, restartAt, entriesFrom, readFrom, Told, From, BelowAt}
-use Rattle.block.proofs.ReadLaws.{entry-start, entry-ends, Reads, reads-of, reads-back, reads-from, reads-fresh, reads-count, StartsBefore, starts-rise, restart-at, skip-entries}
+use Rattle.block.proofs.ReadLaws.{entry-start, entry-ends, Reads, reads-of, reads-back, reads-count, StartsBefore, starts-rise, restart-reads, skip-entries}
 use Rattle.block.proofs.FormedLaws.{rises-pairs}
 use Rattle.block.proofs.LayoutLaws.{restarts-have, numbers-length, no-block, block-is, entries-size}
 use Rattle.block.proofs.EntryLaws.{Taken}
@@ -146,15 +146,15 @@ module _ (s : List ℕ) {end count : ℕ} (l : Laid s end count) where
     suffix : {es : List Entry} → Readable s end count es → Suffix d r es
     suffix {es} w =
         let rs = numbers count (drop end s) in
-        let a = restart-at rs es (stand-all rs es (omega (arith, numbers-length count (drop end s))) (w .stand)) r (rw restart (restarts-have s end count j is)) in
-        let f = reads-from (a .before) (a .here) (a .after) (rw (a .whole) at (w .reads)) in
+        let f = restart-reads d rs es (w .reads) (stand-all rs es (omega (arith, numbers-length count (drop end s))) (w .stand)) r (rw restart (restarts-have s end count j is)) in
+        let a = f .entry-at in
         record {
           before = a .before;
           here = a .here;
           after = a .after;
           whole = a .whole;
           start = a .start;
-          reads = read-from within (subst (λ (q : ℕ). Reads d q [] (a .here ∷ a .after)) (a .start) (reads-fresh (a .fresh) (f .1))) (all-after (a .before) (a .here ∷ a .after) (rw (a .whole) at (w .fits)));
+          reads = read-from within (f .rest) (all-after (a .before) (a .here ∷ a .after) (rw (a .whole) at (w .fits)));
         }
 
     -- not above a place: no entry before it starts there

@@ -57,6 +57,11 @@ pub part-most : (s : List ℕ) (a n : ℕ) → length (part s a n) ≤ n
 unfolding part
 part-most s a n = simp length-take (omega arith)
 
+-- all that is left from a place on
+pub part-end : (s : List ℕ) (a n : ℕ) → length s ≤ a + n → part s a n ≡ drop a s
+unfolding part
+part-end s a n h = take-all n (drop a s) (omega (arith, length-drop a s))
+
 -- the parts `&s[a..]` and `&s[a..a + n]` that code hands on
 pub part-rest : (s : List ℕ) (a : ℕ) → take (length s - a) (drop a s) ≡ drop a s
 part-rest s a = take-all (length s - a) (drop a s) (omega (arith, length-drop a s))
@@ -99,6 +104,13 @@ pub number-bytes : (w x : ℕ) → x < 256 ^ w → numberOf (bytesOf w x) ≡ x
 unfolding bytesOf numberOf
 number-bytes zero x h = omega arith
 number-bytes (suc w) x h = rw (number-bytes w (x / 256) (omega arith)) (omega arith)
+
+pub number-below : (w : ℕ) (s : List ℕ) → Below 256 s → length s ≤ w → numberOf s < 256 ^ w
+unfolding numberOf
+number-below zero [] h l = omega arith
+number-below zero (b ∷ bs) h l = absurd (omega arith)
+number-below (suc w) [] h l = omega (arith, number-below w [] tt (omega arith))
+number-below (suc w) (b ∷ bs) h l = omega (arith, h .0, number-below w bs (h .1) (omega arith))
 
 -- what stands above w bytes does not show in them
 pub bytes-above : (w x k : ℕ) → bytesOf w (x + 256 ^ w * k) ≡ bytesOf w x

@@ -6,12 +6,7 @@ use native.Mathlib.Omega.{arith}
 use lib.Arith.{bin-ind}
 use lib.Bits.{bitXor, xor-shr, xor-mod, xor-self, xor-zero-r}
 use lib.Pow as Pow
-use Rattle.codec.specs.Checksum.{crcBit, crcBits, crcByte, crcOver, crcExtend}
-
--- the check value of "123456789"
-pub check-value : crcExtend 0 (49 ∷ 50 ∷ 51 ∷ 52 ∷ 53 ∷ 54 ∷ 55 ∷ 56 ∷ 57 ∷ []) ≡ 0xe306_9283
-unfolding crcExtend crcOver crcByte crcBits crcBit
-check-value = refl
+use Rattle.codec.specs.Checksum.{crcByte, crcOver, crcExtend}
 
 -- ---- xor, which lib.Bits does not have as associative
 

@@ -1,19 +1,17 @@
--- Numbers of w bytes at a place of a list: what is read, and what was written is read back.
-use Prim.Native.Nat.{ℕ, zero, suc, _+_, _*_, _^_, _≤_, _<_}
-use mathlib.Core.Path.{_≡_, refl, ap, _∙_}
+-- Numbers of w bytes at a place of a list: what is read, and what an answer says.
+use Prim.Native.Nat.{ℕ, zero, suc, _+_, _*_, _≤_, _<_}
+use mathlib.Core.Path.{_≡_, refl, sym, ap, _∙_}
 use mathlib.Core.List.{List}
-use mathlib.Core.Option.{none, some}
+use mathlib.Core.Option.{Option, none, some, Option·some-inj, Option·none-ne-some}
 use native.Mathlib.Nat.{add-suc, add-zero}
 use native.Mathlib.Omega.{arith}
-use lib.ListN.{length, drop, getD}
-use lib.Seq.{drop-cons, take-at}
+use lib.ListN.{length, getD}
+use lib.Seq.{drop-cons}
 use borrow.Author.Tests.{le-leb, lt-leb}
-use Rattle.codec.specs.declared.fixed.U32Read.the-variants.{Value, Bad}
-use Rattle.codec.specs.Answers.{u32Answer}
-use Rattle.codec.specs.Bytes.{part, bytesOf, numberOf, numberAt}
-use Rattle.codec.specs.Put.{put}
-use Rattle.codec.proofs.BytesLaws.{bytes-length, number-bytes}
-use Rattle.codec.proofs.PutLaws.{put-length, put-drop}
+use Rattle.codec.specs.declared.fixed.U32Read.the-variants as U32Case
+use Rattle.codec.specs.declared.fixed.U64Read.the-variants as U64Case
+use Rattle.codec.specs.Answers.{u32Answer, u64Answer}
+use Rattle.codec.specs.Bytes.{part, numberOf, numberAt}
 
 pub number-in : (w : ℕ) (s : List ℕ) (at : ℕ) → at + w ≤ length s → numberAt w s at ≡ some (numberOf (part s at w))
 unfolding numberAt
@@ -33,27 +31,39 @@ unfolding numberOf part
 number-part zero s at i h = refl
 number-part (suc w) s at i h = rw (drop-cons s (at + i) 0 (omega arith), ← add-suc, number-part w s at (suc i) (omega arith))
 
--- the number at a place, byte by byte
+-- the number of w bytes at a place, byte by byte
+pub number-is : (w : ℕ) (s : List ℕ) (at : ℕ) → at + w ≤ length s → numberOf (part s at w) ≡ horner s at 0 w
+number-is w s at h = rw add-zero at (number-part w s at 0 (omega arith))
+
 pub number-at : (w : ℕ) (s : List ℕ) (at : ℕ) → at + w ≤ length s → numberAt w s at ≡ some (horner s at 0 w)
-number-at w s at h = number-in w s at h ∙ ap some (rw add-zero at (number-part w s at 0 (omega arith)))
+number-at w s at h = number-in w s at h ∙ ap some (number-is w s at h)
 
--- the round trip
-pub number-back : (w : ℕ) (d : List ℕ) (at x : ℕ) → at + w ≤ length d → x < 256 ^ w → numberAt w (put d at (bytesOf w x)) at ≡ some x
-unfolding part
-number-back w d at x h f =
-    let l : length (bytesOf w x) ≡ w = bytes-length w x in
-    number-in w (put d at (bytesOf w x)) at (rw (put-length d at (bytesOf w x)) h)
-    ∙ ap some (rw (put-drop d at (bytesOf w x) (omega arith), take-at (bytesOf w x) (drop (at + length (bytesOf w x)) d) w l) (number-bytes w x f))
+-- where the bytes are there
+module _ (w : ℕ) (s : List ℕ) (at : ℕ) (there : at + w ≤ length s) where
+  pub number-read : {x : ℕ} → numberAt w s at ≡ some x → x ≡ numberOf (part s at w)
+  number-read e = Option·some-inj .0 (sym e ∙ number-in w s at there)
 
--- ---- what an answer says, where the bytes are there
+  pub number-there : numberAt w s at ≡ none → ⊥
+  number-there e = Option·none-ne-some (numberOf (part s at w)) (sym e ∙ number-in w s at there)
 
-module _ (s : List ℕ) (at : ℕ) (there : at + 4 ≤ length s) where
-  answered : u32Answer (numberAt 4 s at) ≡ Value (numberOf (part s at 4))
-  unfolding u32Answer
-  answered = ap u32Answer (number-in 4 s at there)
+-- ---- what an answer says, of 4 bytes and of 8
 
-  pub u32-is : {x : ℕ} → u32Answer (numberAt 4 s at) ≡ Value x → x ≡ numberOf (part s at 4)
-  u32-is e = let f = answered in cc
+pub no-u32 : (o : Option ℕ) → u32Answer o ≡ U32Case.Bad → o ≡ none
+unfolding u32Answer
+no-u32 none e = refl
+no-u32 (some y) e = cc
 
-  pub u32-there : u32Answer (numberAt 4 s at) ≡ Bad → ⊥
-  u32-there e = let f = answered in let z : _≡_ {A = ℕ} 0 1 = cc in omega arith
+pub a-u32 : (o : Option ℕ) {x : ℕ} → u32Answer o ≡ U32Case.Value x → o ≡ some x
+unfolding u32Answer
+a-u32 none e = cc
+a-u32 (some y) {x} e = let p : y ≡ x = cc in ap some p
+
+pub no-u64 : (o : Option ℕ) → u64Answer o ≡ U64Case.Bad → o ≡ none
+unfolding u64Answer
+no-u64 none e = refl
+no-u64 (some y) e = cc
+
+pub a-u64 : (o : Option ℕ) {x : ℕ} → u64Answer o ≡ U64Case.Value x → o ≡ some x
+unfolding u64Answer
+a-u64 none e = cc
+a-u64 (some y) {x} e = let p : y ≡ x = cc in ap some p

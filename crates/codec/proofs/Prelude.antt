@@ -20,9 +20,6 @@ pub decide : (t : Bool) → T t ⊎ T (not t)
 decide true = inl tt
 decide false = inr tt
 
-pub false-true : false ≡ true → ⊥
-false-true e = let z : _≡_ {A = ℕ} 0 1 = cc in omega arith
-
 -- ---- `T` and equations
 
 pub is-true : (t : Bool) → T t → t ≡ true
@@ -57,7 +54,3 @@ and-i true b s t = t
 pub or-cases : (a b : Bool) → T (a || b) → T a ⊎ T b
 or-cases true b t = inl tt
 or-cases false b t = inr t
-
-pub or-true : (p : Bool) → p || true ≡ true
-or-true true = refl
-or-true false = refl

@@ -56,12 +56,6 @@ put-length d at bs =
       | no h ↦ ap length (put-full d at bs (omega arith))
     ]
 
--- the bytes stand at their place, with what stood behind them
-pub put-drop : (d : List ℕ) (at : ℕ) (bs : List ℕ) → at + length bs ≤ length d → drop at (put d at bs) ≡ bs ++ drop (at + length bs) d
-put-drop d at bs h =
-    ap (drop at) (put-room d at bs h ∙ append-assoc (take at d) bs (drop (at + length bs) d))
-    ∙ drop-at (take at d) (bs ++ drop (at + length bs) d) at (length-take-le at d (omega arith))
-
 pub sets-append : (d : List ℕ) (at : ℕ) (bs cs : List ℕ) → sets (sets d at bs) (at + length bs) cs ≡ sets d at (bs ++ cs)
 sets-append d at [] cs = rw add-zero
 sets-append d at (b ∷ bs) cs = rw (add-suc, ← suc-add) (sets-append _ (suc at) bs cs)
@@ -101,10 +95,27 @@ wrote-then d at bs cs next r e r′ e′ h w p w′ =
       left = w′ .left ∙ ap₂ (λ (x : List ℕ) (y : ℕ). put x y cs) (w .left) n ∙ put-put d at bs cs h;
     }
 
+-- the same, where the second is known to start there
+pub wrote-after : (d : List ℕ) (at : ℕ) (bs cs : List ℕ) (next : ℕ) (r : Written) (e : List ℕ) (r′ : Written) (e′ : List ℕ)
+    → at + length bs + length cs ≤ length d → next ≡ at + length bs → Wrote d at bs r e → Wrote e next cs r′ e′ → Wrote d at (bs ++ cs) r′ e′
+wrote-after d at bs cs next r e r′ e′ h n w v = wrote-then d at bs cs next r e r′ e′ h w (w .said ∙ answer-room d at bs (omega arith) ∙ ap At (sym n)) v
+
 -- a byte, and then others behind it
 pub wrote-cons : (d : List ℕ) (at b : ℕ) (cs : List ℕ) (r : Written) (e : List ℕ)
     → at + 1 + length cs ≤ length d → Wrote (set d at b) (at + 1) cs r e → Wrote d at (b ∷ cs) r e
 wrote-cons d at b cs r e h w = wrote-then d at (b ∷ []) cs (at + 1) (At (at + 1)) (set d at b) r e h (wrote-sets d at (b ∷ []) (at + 1) (set d at b) (omega arith) refl refl) refl w
+
+-- other words for the bytes
+pub wrote-as : {d : List ℕ} {at : ℕ} {bs cs : List ℕ} {r : Written} {e : List ℕ} → bs ≡ cs → Wrote d at bs r e → Wrote d at cs r e
+wrote-as q w = rw q at w
+
+-- a part of n bytes that was lent and came back with other bytes
+pub mid-put : (d : List ℕ) (at : ℕ) (ys : List ℕ) (n : ℕ) → n ≡ length ys → at + n ≤ length d → take at d ++ (ys ++ drop n (drop at d)) ≡ put d at ys
+mid-put d at ys n e h =
+    ap (λ (l : List ℕ). take at d ++ (ys ++ l)) (drop-drop n at d)
+    ∙ sym (append-assoc (take at d) ys (drop (at + n) d))
+    ∙ ap (λ (m : ℕ). take at d ++ ys ++ drop (at + m) d) e
+    ∙ sym (put-room d at ys (omega arith))
 
 -- ---- bytes that were put: they stand where they were put, and all else as it was
 
@@ -139,9 +150,6 @@ kept-same from to d = record { long = refl; before = refl; after = refl }
 
 pub kept-put : (d : List ℕ) (at : ℕ) (bs : List ℕ) → Kept at (at + length bs) d (put d at bs)
 kept-put d at bs = record { long = put-length d at bs; before = put-before d at bs; after = put-after d at bs }
-
-pub kept-wrote : {d : List ℕ} {at : ℕ} {bs : List ℕ} {r : Written} {e : List ℕ} → Wrote d at bs r e → Kept at (at + length bs) d e
-kept-wrote {d} {at} {bs} w = rw (w .left) (kept-put d at bs)
 
 -- behind a part
 pub put-behind : (d : List ℕ) (at n : ℕ) (bs : List ℕ) → at + n + length bs ≤ length d → part (put d (at + n) bs) at (n + length bs) ≡ part d at n ++ bs

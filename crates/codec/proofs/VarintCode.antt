@@ -79,14 +79,14 @@ bytes-turn (suc k) x h l = (k, div-lt-iff-lt-mul (lit< tt) .1 (rw (← pow-suc) 
 -- ---- what an answer says
 
 module _ (s : List ℕ) where
-  no-varint : varintAnswer (varint s) ≡ Bad → varint s ≡ none
+  pub no-varint : varintAnswer (varint s) ≡ Bad → varint s ≡ none
   no-varint = go (varint s)
     where
       go : (o : Option Read) → varintAnswer o ≡ Bad → o ≡ none
       go none e = refl
       go (some r) e = unfold varintAnswer in cc
 
-  a-varint : {v n : ℕ} → varintAnswer (varint s) ≡ Value v n → varint s ≡ some (record { value = v; size = n })
+  pub a-varint : {v n : ℕ} → varintAnswer (varint s) ≡ Value v n → varint s ≡ some (record { value = v; size = n })
   a-varint {v} {n} = go (varint s)
     where
       go : (o : Option Read) → varintAnswer o ≡ Value v n → o ≡ some (record { value = v; size = n })

@@ -2,14 +2,13 @@
 use Prim.Native.Nat.{ℕ, suc, _+_, _*_, _-_, _/_, _%_, _^_, _≤_, _<_}
 use mathlib.Core.Path.{_≡_, sym}
 use mathlib.Core.List.{List, _∷_}
-use mathlib.Core.Bool.{true, false, and-false}
+use mathlib.Core.Bool.{true, false, and-false, or-true}
 use native.Mathlib.Omega.{arith}
 use lib.Dec.{leb}
 use lib.ListN.{length, take, drop, getD}
 use lib.Seq.{drop-drop}
 use borrow.Author.Tests.{lt-ltb, le-ltb, le-leb, lt-leb, eq-eqb, ne-eqb}
 use Rattle.codec.specs.Bytes.{part, numberOf, numbers}
-use Rattle.codec.proofs.Prelude.{or-true}
 use Rattle.filter.specs.Filter.{filterMay}
 use Rattle.filter.specs.FilterBlock.{baseOf, arrayOf, countOf, startOf, rising, filterFormed, mayMatch}
 use Rattle.filter.proofs.FilterBlockLaws.{may-beyond}

@@ -2,15 +2,14 @@
 use Prim.Native.Nat.{ℕ, zero, suc, _+_, _*_, _-_, _/_, _%_, _^_, _≤_, _<_}
 use mathlib.Core.Path.{_≡_, refl, ap}
 use mathlib.Core.List.{List, [], _∷_, _++_, append-assoc, append-nil, List·Memᴰ}
-use mathlib.Core.Bool.{true}
+use mathlib.Core.Bool.{true, or-true}
 use native.Mathlib.Numerals.{add-one}
-use native.Mathlib.Nat.{zero-add, add-zero}
+use native.Mathlib.Nat.{zero-add}
 use native.Mathlib.Omega.{arith}
 use lib.ListN.{length, drop, getD, length-append}
 use lib.Seq.{take-at, drop-append-seam}
 use borrow.Author.Tests.{le-leb, eq-eqb}
 use Rattle.codec.specs.Bytes.{part, bytesOf, fours, numbers}
-use Rattle.codec.proofs.Prelude.{or-true}
 use Rattle.codec.proofs.Lists.{Below}
 use Rattle.codec.proofs.BytesLaws.{part-at, back-at, last-one, bytes-length, number-bytes, fours-length, fours-append, numbers-fours, number-of-fours}
 use Rattle.filter.specs.FilterBlock.{baseOf, arrayOf, countOf, startOf, rising, filterFormed, mayMatch, Filtering, filterFor, madeBytes, starts, filterBlockOf, filterBlockBytes}
@@ -70,13 +69,13 @@ module _ (c : Filtering) where
   starts-length at [] = refl
   starts-length at (g ∷ gs) = ap suc (starts-length (at + length (filterFor c g)) gs)
 
-  starts-rise : (low at : ℕ) (gs : List (List ℕ)) → low ≤ at → rising low (starts c at gs) (at + length (madeBytes c gs)) ≡ true
+  offsets-rise : (low at : ℕ) (gs : List (List ℕ)) → low ≤ at → rising low (starts c at gs) (at + length (madeBytes c gs)) ≡ true
   unfolding starts madeBytes rising
-  starts-rise low at [] h = le-leb low (at + 0) (omega arith)
-  starts-rise low at (g ∷ gs) h =
+  offsets-rise low at [] h = le-leb low (at + 0) (omega arith)
+  offsets-rise low at (g ∷ gs) h =
       let f = filterFor c g in
       let l : at + length (f ++ madeBytes c gs) ≡ at + length f + length (madeBytes c gs) = omega (arith, length-append f (madeBytes c gs)) in
-      rw (le-leb low at h, l) (starts-rise at (at + length f) gs (omega arith))
+      rw (le-leb low at h, l) (offsets-rise at (at + length f) gs (omega arith))
 
   starts-below : (at : ℕ) (gs : List (List ℕ)) (m : ℕ) → at + length (madeBytes c gs) < m → Below m (starts c at gs)
   unfolding starts madeBytes
@@ -90,14 +89,6 @@ module _ (c : Filtering) where
   unfolding madeBytes
   made-append [] hs = refl
   made-append (g ∷ gs) hs = rw (made-append gs hs) (simp append-assoc)
-
-  pub starts-append : (at : ℕ) (gs hs : List (List ℕ)) → starts c at (gs ++ hs) ≡ starts c at gs ++ starts c (at + length (madeBytes c gs)) hs
-  unfolding starts madeBytes
-  starts-append at [] hs = rw add-zero
-  starts-append at (g ∷ gs) hs =
-      let f = filterFor c g in
-      let l : at + length (f ++ madeBytes c gs) ≡ at + length f + length (madeBytes c gs) = omega (arith, length-append f (madeBytes c gs)) in
-      rw (l, starts-append (at + length f) gs hs)
 
   -- the block's size: the filters, 4 for each, and 5
   pub block-long : (gs : List (List ℕ)) → length (filterBlockBytes c gs) ≡ length (madeBytes c gs) + 4 * length gs + 5
@@ -152,7 +143,7 @@ module _ (c : Filtering) (gs : List (List ℕ)) (small : length (madeBytes c gs)
   pub formed : filterFormed s ≡ true
   unfolding filterFormed
   formed =
-      let r : rising 0 os (length fs) ≡ true = rw zero-add at (starts-rise c 0 0 gs (omega arith)) in
+      let r : rising 0 os (length fs) ≡ true = rw zero-add at (offsets-rise c 0 0 gs (omega arith)) in
       rw (numbers-are, base-is, array-is, le-leb 5 (length s) (omega (arith, block-long c gs)), le-leb (length fs) (length s - 5) (omega (arith, block-long c gs)), eq-eqb ((length s - 5 - length fs) % 4) 0 (omega (arith, block-long c gs))) r
 
   start-is : (i : ℕ) → i ≤ length gs → startOf s i ≡ getD (bounds c 0 gs) i 0

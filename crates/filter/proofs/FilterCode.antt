@@ -1,8 +1,8 @@
 -- One filter as the code goes: its size without overflow, its places and bits one by one, and its bytes in a part of a run.
 use Prim.Native.Nat.{ℕ, suc, _+_, _*_, _-_, _/_, _%_, _^_, _≤_, _<_, min, max}
 use mathlib.Core.Path.{_≡_, refl, sym, ap, _∙_}
-use mathlib.Core.List.{List, [], _∷_, _++_, append-assoc}
-use mathlib.Core.Bool.{true, false}
+use mathlib.Core.List.{List, [], _∷_, _++_}
+use mathlib.Core.Bool.{true, false, or-true}
 use native.Mathlib.Nat.{add-mul, mul-assoc, mul-zero, mul-le-mul-right, le-div-iff-mul-le, div-lt-iff-lt-mul, mod-eq-of-lt, mod-lt, sub-zero}
 use native.Mathlib.Numerals.{add-one}
 use native.Mathlib.Omega.{arith}
@@ -10,20 +10,20 @@ use lib.Bits.{bitOr}
 use lib.Dec.{eqb}
 use lib.ListN.{length, take, drop, getD, set, replicate, length-replicate, drop-of-length-le}
 use lib.Pow.{pow-lt}
-use lib.Seq.{drop-cons, drop-drop, length-take-le}
+use lib.Seq.{drop-cons, length-take-le}
 use borrow.Author.Tests.{lt-ltb, le-ltb, lt-leb}
 use Rattle.codec.specs.declared.put.Written.the-variants.{At}
 use Rattle.codec.specs.Put.{put, Wrote}
 use Rattle.codec.proofs.BytesLaws.{part-between, part-length}
-use Rattle.codec.proofs.Prelude.{split, or-true}
-use Rattle.codec.proofs.PutLaws.{answer-room, put-room, put-length, wrote-sets, wrote-then}
+use Rattle.codec.proofs.Prelude.{split}
+use Rattle.codec.proofs.PutLaws.{answer-room, put-length, wrote-sets, wrote-then, mid-put}
 use Rattle.filter.specs.declared.filter.Filter as FilterEnum
 use Rattle.filter.specs.declared.filter.Filter.the-variants as FilterCase
 use Rattle.filter.specs.Choice.{choiceOf}
 use Rattle.filter.specs.Filter.{probes, places, placesOf, bit, raise, raiseAll, raiseKeys, filterSize, filter, allRaised, filterMay}
 use Rattle.filter.specs.FilterBlock.{Filtering, unfiltered, bitsPerKey, filterFor}
 use Rattle.filter.specs.FilterCount.{filterBytesOf}
-use Rattle.filter.proofs.FilterLaws.{keys-length, size-is, empty-filter}
+use Rattle.filter.proofs.FilterLaws.{keys-length, size-eighths, empty-filter}
 
 -- ---- the size of n keys at b bits each
 
@@ -34,10 +34,10 @@ module _ (n b : ℕ) where
       let e : n * b ≡ 8 * (n / 8 * b) + n % 8 * b =
       let d : n ≡ 8 * (n / 8) + n % 8 = omega arith in
       ap (λ (m : ℕ). m * b) d ∙ add-mul (8 * (n / 8)) (n % 8) b ∙ ap (λ (m : ℕ). m + n % 8 * b) (mul-assoc 8 (n / 8) b) in
-      omega (arith, size-is (n * b))
+      omega (arith, size-eighths (n * b))
 
   pub size-none : b ≡ 0 → 8 ≡ min (filterSize (n * b)) (2 ^ 63)
-  size-none e = let z : n * b ≡ 0 = ap (λ (m : ℕ). n * m) e ∙ mul-zero n in omega (arith, size-is (n * b))
+  size-none e = let z : n * b ≡ 0 = ap (λ (m : ℕ). n * m) e ∙ mul-zero n in omega (arith, size-eighths (n * b))
 
   pub size-huge : (b ≡ 0 → ⊥) → (2 ^ 63 - 1) / b < n / 8 → 2 ^ 63 ≡ min (filterSize (n * b)) (2 ^ 63)
   size-huge p h = let l : 2 ^ 63 - 1 < n / 8 * b = div-lt-iff-lt-mul {k = b} {x = 2 ^ 63 - 1} {y = n / 8} (omega arith) .0 h in omega (arith, size-eights)
@@ -77,10 +77,10 @@ module _ (ch : FilterEnum.Filter) where
   unfolding filterFor
   no-filter-none hs e = rw (choice-none e)
 
-  pub filter-some : (hs : List ℕ) {b : ℕ} → ch ≡ FilterCase.Bits b → (length hs ≡ 0 → ⊥) → filterFor (choiceOf ch) hs ≡ filter b hs
+  pub filter-chosen : (hs : List ℕ) {b : ℕ} → ch ≡ FilterCase.Bits b → (length hs ≡ 0 → ⊥) → filterFor (choiceOf ch) hs ≡ filter b hs
   unfolding filterFor
-  filter-some [] e p = absurd (p refl)
-  filter-some (x ∷ hs) e p = rw (choice-bits e)
+  filter-chosen [] e p = absurd (p refl)
+  filter-chosen (x ∷ hs) e p = rw (choice-bits e)
 
 -- without hashes, whatever the choice
 pub no-filter : (c : Filtering) (hs : List ℕ) → length hs ≡ 0 → filterFor c hs ≡ []
@@ -162,18 +162,10 @@ module _ (k m : ℕ) (s hs : List ℕ) (i : ℕ) where
 pub mid-length : (d : List ℕ) (at n : ℕ) → at + n ≤ length d → length (take (at + n - at) (drop at d)) ≡ n
 mid-length d at n h = ap length (part-between d at n) ∙ part-length d at n h
 
--- the part came back with other bytes
-mid-put : (d : List ℕ) (at : ℕ) (ys : List ℕ) (n : ℕ) → n ≡ length ys → at + n ≤ length d → take at d ++ (ys ++ drop n (drop at d)) ≡ put d at ys
-mid-put d at ys n e h =
-    ap (λ (l : List ℕ). take at d ++ (ys ++ l)) (drop-drop n at d)
-    ∙ sym (append-assoc (take at d) ys (drop (at + n) d))
-    ∙ ap (λ (m : ℕ). take at d ++ ys ++ drop (at + m) d) e
-    ∙ sym (put-room d at ys (omega arith))
-
 -- a filter is its bits and then k
-filter-is : (bits size k : ℕ) (hs ys : List ℕ) → size ≡ filterSize (length hs * bits) → k ≡ probes bits → ys ≡ raiseKeys k (8 * size) (replicate size 0) hs → filter bits hs ≡ ys ++ (k ∷ [])
+filter-parts : (bits size k : ℕ) (hs ys : List ℕ) → size ≡ filterSize (length hs * bits) → k ≡ probes bits → ys ≡ raiseKeys k (8 * size) (replicate size 0) hs → filter bits hs ≡ ys ++ (k ∷ [])
 unfolding filter
-filter-is bits size k hs ys f p q = rw (← f, ← p, ← q)
+filter-parts bits size k hs ys f p q = rw (← f, ← p, ← q)
 
 pub wrote-filter : (d : List ℕ) (at size bits k : ℕ) (hs ys : List ℕ)
     → size ≡ min (filterSize (length hs * bits)) (2 ^ 63) → length d < 2 ^ 63 → at ≤ length d → size < length d - at → k ≡ probes bits
@@ -183,7 +175,7 @@ wrote-filter d at size bits k hs ys n l h room p e =
     let f : size ≡ filterSize (length hs * bits) = omega arith in
     let q : ys ≡ raiseKeys k (8 * size) (replicate size 0) hs = rw (mid-length d at size (omega arith)) at e in
     let w : length ys ≡ size = ap length q ∙ keys-length k (8 * size) (replicate size 0) hs ∙ length-replicate size 0 in
-    rw (filter-is bits size k hs ys f p q, mid-put d at ys (at + size - at) (omega arith) (omega arith))
+    rw (filter-parts bits size k hs ys f p q, mid-put d at ys (at + size - at) (omega arith) (omega arith))
     (wrote-then d at ys (k ∷ []) (at + size) (At (at + size)) (put d at ys) (At (at + size + 1)) (set (put d at ys) (at + size) k) (omega arith)
     (record { said = ap At (omega arith) ∙ sym (answer-room d at ys (omega arith)); left = refl }) refl
     (wrote-sets (put d at ys) (at + size) (k ∷ []) (at + size + 1) (set (put d at ys) (at + size) k) (omega (arith, put-length d at ys)) (omega arith) refl))

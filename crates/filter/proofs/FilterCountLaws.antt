@@ -24,10 +24,10 @@ filter-size unfiltered hs = refl
 filter-size (bitsPerKey b) [] = refl
 filter-size (bitsPerKey b) (h ∷ hs) = filter-length b (h ∷ hs)
 
-pub no-bytes : (c : Filtering) → filterBytesOf c 0 ≡ 0
+pub no-hashes : (c : Filtering) → filterBytesOf c 0 ≡ 0
 unfolding filterBytesOf
-no-bytes unfiltered = refl
-no-bytes (bitsPerKey b) = refl
+no-hashes unfiltered = refl
+no-hashes (bitsPerKey b) = refl
 
 module _ (c : Filtering) where
   pub count-no-filters : filterCountOf c noFilters ≡ record { bytes = 0; made = 0; waiting = 0 }
@@ -46,7 +46,7 @@ module _ (c : Filtering) where
   unfolding taken
   taken-again n k =
       let m : suc n + (1 + k .made) ≡ suc (suc n) + k .made = omega arith in
-      let b : k .bytes + filterBytesOf c (k .waiting) + filterBytesOf c 0 ≡ k .bytes + filterBytesOf c (k .waiting) = omega (arith, no-bytes c) in
+      let b : k .bytes + filterBytesOf c (k .waiting) + filterBytesOf c 0 ≡ k .bytes + filterBytesOf c (k .waiting) = omega (arith, no-hashes c) in
       rw (b, m)
 
   count-make : (f : Filters) → filterCountOf c (makeFilter f) ≡ taken 1 (filterCountOf c f)
@@ -86,13 +86,13 @@ module _ (c : Filtering) where
   unfolding filtersUpTo countUpTo
   count-upTo offset f = count-made (offset / 2048) f
 
-  last-none : (k : FilterCount) → k .waiting ≡ 0 → countLast c k ≡ k
+  none-waits : (k : FilterCount) → k .waiting ≡ 0 → countLast c k ≡ k
   unfolding countLast
-  last-none k e = cc
+  none-waits k e = cc
 
-  last-some : (k : FilterCount) (n : ℕ) → k .waiting ≡ suc n → countLast c k ≡ taken 1 k
+  some-wait : (k : FilterCount) (n : ℕ) → k .waiting ≡ suc n → countLast c k ≡ taken 1 k
   unfolding countLast
-  last-some k n e =
+  some-wait k n e =
       let one : countMade c (suc (k .made)) k ≡ taken 1 k =
       let m : suc (k .made) - k .made ≡ 1 = omega arith in rw (made-more (suc (k .made)) k (omega arith), m) in
       cc
@@ -103,10 +103,10 @@ module _ (c : Filtering) where
       go : (w : List ℕ) → f .waiting ≡ w → filterCountOf c (lastFilter f) ≡ countLast c (filterCountOf c f)
       go [] e =
           let last : lastFilter f ≡ f = unfold lastFilter in cc in
-          rw (last, last-none (filterCountOf c f) (unfold filterCountOf in ap length e))
+          rw (last, none-waits (filterCountOf c f) (unfold filterCountOf in ap length e))
       go (h ∷ hs) e =
           let last : lastFilter f ≡ makeFilter f = unfold lastFilter in cc in
-          rw (last, last-some (filterCountOf c f) (length hs) (unfold filterCountOf in ap length e)) (count-make f)
+          rw (last, some-wait (filterCountOf c f) (length hs) (unfold filterCountOf in ap length e)) (count-make f)
 
   pub count-block : (f : Filters) → length (filterBlockBytes c (f .made)) ≡ filterBlockSize (filterCountOf c f)
   unfolding filterCountOf filterBlockSize
@@ -135,5 +135,5 @@ module _ (c : Filtering) where
   last-kept k = go (k .waiting) refl
     where
       go : (n : ℕ) → k .waiting ≡ n → Kept k (countLast c k) × (countLast c k .waiting ≡ 0)
-      go zero e = rw (last-none c k e) (omega arith)
-      go (suc n) e = rw (last-some c k n e) (unfold taken in omega arith)
+      go zero e = rw (none-waits c k e) (omega arith)
+      go (suc n) e = rw (some-wait c k n e) (unfold taken in omega arith)

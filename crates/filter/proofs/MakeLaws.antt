@@ -15,7 +15,7 @@ use Rattle.codec.specs.Bytes.{bytesOf, fours}
 use Rattle.codec.specs.Put.{room, put, Wrote}
 use Rattle.codec.proofs.BytesLaws.{bytes-length, bytes-low, fours-length}
 use Rattle.codec.proofs.Prelude.{split, both}
-use Rattle.codec.proofs.PutLaws.{answer-room, put-sets, put-nil, put-length, wrote-sets, wrote-then}
+use Rattle.codec.proofs.PutLaws.{put-sets, put-nil, put-length, wrote-sets, wrote-after}
 use Rattle.filter.specs.declared.filter_block.Made.the-variants.{Filters, NoRoom}
 use Rattle.filter.specs.FilterBlock.{Filtering, filterFor, madeBytes, starts, filterBlockOf}
 use Rattle.filter.specs.FilterCount.{filterBytesOf}
@@ -155,11 +155,6 @@ module _ (c : Filtering) (hs : List ℕ) (bytes made n : ℕ) (f o : List ℕ) w
 
 -- ---- the four parts of the block, one write each
 
--- a write behind another
-wrote-behind : (d : List ℕ) (at : ℕ) (bs cs : List ℕ) (next : ℕ) (r : Written) (e : List ℕ) (r′ : Written) (e′ : List ℕ)
-    → at + length bs + length cs ≤ length d → next ≡ at + length bs → Wrote d at bs r e → Wrote e next cs r′ e′ → Wrote d at (bs ++ cs) r′ e′
-wrote-behind d at bs cs next r e r′ e′ h n w v = wrote-then d at bs cs next r e r′ e′ h w (w .said ∙ answer-room d at bs (omega arith) ∙ ap At (sym n)) v
-
 -- the filters, their starts, where these begin, and the base log
 pub wrote-block : (d : List ℕ) (at : ℕ) (fs os : List ℕ) (r₁ : Written) (e₁ : List ℕ) (r₂ : Written) (e₂ : List ℕ) (r₃ : Written) (e₃ : List ℕ)
     → at + length fs + 4 * length os + 5 ≤ length d → Wrote d at fs r₁ e₁ → Wrote e₁ (at + length fs) (fours os) r₂ e₂
@@ -174,9 +169,9 @@ wrote-block d at fs os r₁ e₁ r₂ e₂ r₃ e₃ h w₁ w₂ w₃ =
     let m = length-append fs (fours os) in
     let n = length-append (fs ++ fours os) bs in
     let v₃ : Wrote e₂ end bs r₃ e₃ = rw (bytes-low (length fs)) at w₃ in
-    let two = wrote-behind d at fs (fours os) (at + length fs) r₁ e₁ r₂ e₂ (omega arith) refl w₁ w₂ in
-    let three = wrote-behind d at (fs ++ fours os) bs end r₂ e₂ r₃ e₃ (omega arith) (omega arith) two v₃ in
+    let two = wrote-after d at fs (fours os) (at + length fs) r₁ e₁ r₂ e₂ (omega arith) refl w₁ w₂ in
+    let three = wrote-after d at (fs ++ fours os) bs end r₂ e₂ r₃ e₃ (omega arith) (omega arith) two v₃ in
     let z : length e₃ ≡ length d = ap length (three .left) ∙ put-length d at (fs ++ fours os ++ bs) in
     let last = wrote-sets e₃ (end + 4) (11 ∷ []) (end + 5) (set e₃ (end + 4) 11) (omega arith) (omega arith) refl in
     let all : fs ++ (fours os ++ (bs ++ (11 ∷ []))) ≡ fs ++ fours os ++ bs ++ (11 ∷ []) = simp append-assoc in
-    rw all (wrote-behind d at (fs ++ fours os ++ bs) (11 ∷ []) (end + 4) r₃ e₃ (At (end + 5)) (set e₃ (end + 4) 11) (omega arith) (omega arith) three last)
+    rw all (wrote-after d at (fs ++ fours os ++ bs) (11 ∷ []) (end + 4) r₃ e₃ (At (end + 5)) (set e₃ (end + 4) 11) (omega arith) (omega arith) three last)

@@ -1,19 +1,14 @@
 -- What the code answers and writes of keys, against the definitions: comparisons, kinds, tags.
 use Prim.Native.Nat.{ℕ, zero, suc, _+_, _*_, _-_, _/_, _%_, _^_, _≤_, _<_, compare, Ordering, Ordering·lt, Ordering·eq, Ordering·gt}
 use mathlib.Core.Path.{_≡_, refl, sym, ap, _∙_}
-use mathlib.Core.List.{List, [], _∷_}
+use mathlib.Core.List.{List, []}
 use native.Mathlib.Omega.{arith}
 use lib.ListN.{length, drop, getD, length-drop}
-use lib.Seq.{drop-cons, take-all}
+use lib.Seq.{drop-cons}
 use borrow.Author.Tests.{lt-ltb, le-ltb}
-use Rattle.codec.specs.declared.fixed.U64Read.the-variants.{Value, Bad}
-use Rattle.codec.specs.Answers.{u64Answer}
-use Rattle.codec.specs.Bytes.{part, bytesOf, numberOf, numberAt}
-use Rattle.codec.specs.declared.put.Written.{Written}
-use Rattle.codec.specs.Put.{Wrote}
+use Rattle.codec.specs.Bytes.{part, bytesOf, numberOf}
 use Rattle.codec.proofs.Lists.{Below, below-drop}
-use Rattle.codec.proofs.BytesLaws.{bytes-above}
-use Rattle.codec.proofs.FixedLaws.{number-in}
+use Rattle.codec.proofs.BytesLaws.{part-end, bytes-above, number-below}
 use Rattle.keys.specs.declared.cmp.Ordering as OrderingEnum
 use Rattle.keys.specs.declared.cmp.Ordering.the-variants.{Less, Equal, Greater}
 use Rattle.keys.specs.declared.key_types.KeyRead.the-variants.{Key, TooShort}
@@ -78,13 +73,6 @@ number-before s i h l =
     before : (m : ℕ) → m < length s → numberOf (drop (suc m) s) * 256 + getD s m 0 ≡ numberOf (drop m s)
     before m l = rw (drop-cons s m 0 l) (omega arith)
 
-number-below : (w : ℕ) (s : List ℕ) → Below 256 s → length s ≤ w → numberOf s < 256 ^ w
-unfolding numberOf
-number-below zero [] h l = omega arith
-number-below zero (b ∷ bs) h l = absurd (omega arith)
-number-below (suc w) [] h l = omega (arith, number-below w [] tt (omega arith))
-number-below (suc w) (b ∷ bs) h l = omega (arith, h .0, number-below w bs (h .1) (omega arith))
-
 -- what the bytes after the first make leaves room for one byte more
 pub number-fits : (s : List ℕ) (i : ℕ) → Below 256 s → length s < 8 → 0 < i → i ≤ length s → numberOf (drop i s) < 256 ^ 6
 number-fits s i h l p q = number-below 6 (drop i s) (below-drop 256 i s h) (omega (arith, length-drop i s))
@@ -109,24 +97,15 @@ module _ (k : List ℕ) where
     key-short = rw (lt-ltb (length k) 8 short, keyAnswer)
 
   module _ (long : 8 ≤ length k) where
-    read : u64Answer (numberAt 8 k (length k - 8)) ≡ Value (tagOf k)
-    unfolding u64Answer part tagOf
-    read = ap u64Answer (number-in 8 k (length k - 8) (omega arith)) ∙ rw (take-all 8 (drop (length k - 8) k) (omega (arith, length-drop (length k - 8) k)))
-
-    pub tag-read : {x : ℕ} → u64Answer (numberAt 8 k (length k - 8)) ≡ Value x → x ≡ tagOf k
-    tag-read e = let f = read in cc
-
-    pub tag-there : u64Answer (numberAt 8 k (length k - 8)) ≡ Bad → ⊥
-    tag-there e = let f = read in let z : _≡_ {A = ℕ} 0 1 = cc in omega arith
+    pub tag-long : numberOf (part k (length k - 8) 8) ≡ tagOf k
+    unfolding tagOf
+    tag-long = ap numberOf (part-end k (length k - 8) 8 (omega arith))
 
     pub key-long : Key (length k - 8) (tagOf k / 256) (kindAnswer (tagOf k % 256)) ≡ keyAnswer k
     unfolding keyAnswer seqOf kindOf
     key-long = rw (le-ltb (length k) 8 long, keyAnswer)
 
 -- ---- what is written
-
-pub wrote-as : {d : List ℕ} {at : ℕ} {bs cs : List ℕ} {r : Written} {e : List ℕ} → bs ≡ cs → Wrote d at bs r e → Wrote d at cs r e
-wrote-as q w = rw q at w
 
 -- a tag's sequence, cut to its low 56 bits
 pub tag-bytes : (s kind : ℕ) → bytesOf 8 (s % 2 ^ 56 * 256 + kind) ≡ bytesOf 8 (s * 256 + kind)

@@ -2,14 +2,14 @@
 use Prim.Native.Nat.{ℕ, _+_, _-_, _≤_, _<_}
 use mathlib.Core.Path.{_≡_, sym, _∙_}
 use mathlib.Core.List.{List, [], _∷_, _++_, append-nil}
-use mathlib.Core.Bool.{true, false}
+use mathlib.Core.Bool.{true, false, false≢true}
 use native.Mathlib.Omega.{arith}
 use lib.Dec.{ltb}
 use lib.ListN.{length, take, drop, length-append, length-take, length-drop, take-append-drop}
 use lib.Seq.{take-add, take-append-le, take-length}
 use borrow.Author.Tests.{ltb-true, ltb-false}
 use Rattle.codec.specs.Bytes.{common}
-use Rattle.codec.proofs.Prelude.{test, false-true}
+use Rattle.codec.proofs.Prelude.{test}
 use Rattle.codec.proofs.BytesLaws.{shares-common}
 use Rattle.keys.specs.Order.{byBytes, userOf, below}
 use Rattle.keys.proofs.OrderLaws.{Less, compare-same, ≺-weak, upTo-notBelow, below-itself}
@@ -46,4 +46,4 @@ above-fresh a k l up =
     let n : common a k ≡ length k = omega arith in
     let start : take (length k) a ≡ k = rw (n, take-length k) at (s .same) in
     let whole : a ≡ k ++ drop (length k) a = rw start at (sym (take-append-drop (length k) a)) in
-    absurd (false-true (sym (rw (← whole) at (start-not-above k (drop (length k) a) l)) ∙ up)))
+    absurd (false≢true (sym (rw (← whole) at (start-not-above k (drop (length k) a) l)) ∙ up)))

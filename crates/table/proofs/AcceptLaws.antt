@@ -3,14 +3,14 @@ use Prim.Native.Nat.{ℕ, _^_, _≤_, _<_}
 use mathlib.Core.Path.{_≡_, refl, sym, ap, _∙_}
 use mathlib.Core.Logic.{_⊎_, inl, inr}
 use mathlib.Core.List.{List, [], _∷_, _++_, map, map-append, append-assoc, append-nil}
-use mathlib.Core.Bool.{true, false, _&&_, _||_}
+use mathlib.Core.Bool.{true, false, _&&_, _||_, false≢true, or-true}
 use mathlib.Core.Option.{Option, none, some}
 use native.Mathlib.Omega.{arith}
 use native.Mathlib.Nat.{le-trans}
 use lib.Dec.{ltb, leb, isEq}
 use lib.ListN.{length, length-append}
 use borrow.Author.Tests.{le-leb, ltb-true, leb-true}
-use Rattle.codec.proofs.Prelude.{test, false-true, both, is-true, true-is, or-true}
+use Rattle.codec.proofs.Prelude.{test, both, is-true, true-is}
 use Rattle.keys.specs.Order.{byBytes, bytesBelow, userOf, internal, pointOf, byPoint, below, separator}
 use Rattle.keys.proofs.OrderLaws.{Less, point-same, below-less, less-below, upTo-notBelow, below-le, below-trans, below-itself}
 use Rattle.keys.proofs.KeyLaws.{internal-length}
@@ -45,7 +45,7 @@ edge-below e c g = go (pairs c) (g .follows) (g .rising) (g .indexed)
   where
     go : (ps : List Pair) → Table.firstFollows (some e) ps ≡ true → rises below ps ≡ true → below (c .key) (lastKeyOf [] ps) ≡ false
         → below (e .indexKey) (c .key) ≡ true
-    go [] f r i = absurd (false-true f)
+    go [] f r i = absurd (false≢true f)
     go (p ∷ ps) f r i =
         below-le (e .indexKey) (lastKeyOf [] (p ∷ ps)) (c .key) (below-last (e .indexKey) p ps (less-below (e .indexKey) (p .key) (follows-tells e (p .key) (true-is f) .above)) r) i
 
@@ -209,10 +209,10 @@ last-fit p [] h =
 last-fit p (q ∷ ps) h = last-fit q ps (both ((entryFits dataBlock) p) (all (entryFits dataBlock) (q ∷ ps)) h .1)
 
 -- what holds of additions that are some
-last-fits : (xs : List Addition) → 0 < length xs → all (entryFits dataBlock) (map pairOf xs) ≡ true → within 9 1032 (length (lastKey xs)) ≡ true
+last-key-fits : (xs : List Addition) → 0 < length xs → all (entryFits dataBlock) (map pairOf xs) ≡ true → within 9 1032 (length (lastKey xs)) ≡ true
 unfolding lastKey
-last-fits [] l h = absurd (omega arith)
-last-fits (x ∷ xs) l h = last-fit (pairOf x) (map pairOf xs) h
+last-key-fits [] l h = absurd (omega arith)
+last-key-fits (x ∷ xs) l h = last-fit (pairOf x) (map pairOf xs) h
 
 above-below : (a : Addition) (xs : List Addition) → 0 < length xs → above a xs ≡ true → below (lastKey xs) (keyOf a) ≡ true
 unfolding above
@@ -227,14 +227,14 @@ open-some : (o : Options) (xs : List Addition) → 8 ≤ o .blockSize → o .blo
 open-some o [] r h = absurd (omega (arith, empty-length o))
 open-some o (x ∷ xs) r h = omega arith
 
-first-none : (cs : List Chunk) (a : Addition) → cs ≡ [] → Table.firstFollows (lastEdge none cs) (pairOf a ∷ []) ≡ true
+none-to-follow : (cs : List Chunk) (a : Addition) → cs ≡ [] → Table.firstFollows (lastEdge none cs) (pairOf a ∷ []) ≡ true
 unfolding Table.firstFollows Table.follows
-first-none [] a e = refl
-first-none (c ∷ cs) a e = let z : _≡_ {A = ℕ} 0 1 = cc in absurd (omega arith)
+none-to-follow [] a e = refl
+none-to-follow (c ∷ cs) a e = let z : _≡_ {A = ℕ} 0 1 = cc in absurd (omega arith)
 
-no-open : (before : Option Edge) → Open before []
+open-none : (before : Option Edge) → Open before []
 unfolding all rises
-no-open before = record { fit = refl; follows = λ l. absurd (omega arith); rising = refl; small = tt }
+open-none before = record { fit = refl; follows = λ l. absurd (omega arith); rising = refl; small = tt }
 
 module _ (o : Options) (room-for-empty : 8 ≤ o .blockSize) where
   add-inv : (b : Building) (done : List Addition) (a : Addition) → Inv b done → additionFits a ≡ true → above a (b .openBlock) ≡ true
@@ -251,18 +251,18 @@ module _ (o : Options) (room-for-empty : 8 ≤ o .blockSize) where
       let less = above-below a xs full up in
       let sep = separates (lastKey xs) (keyOf a) (below-less (lastKey xs) (keyOf a) less) in
       let good : GoodChunk (lastEdge none cs) c =
-      close-good (lastEdge none cs) xs key (i .isOpen) full (upTo-notBelow (lastKey xs) key (sep .from)) (sep-length (lastKey xs) (keyOf a) (last-fits xs full (i .isOpen .fit))) in
+      close-good (lastEdge none cs) xs key (i .isOpen) full (upTo-notBelow (lastKey xs) key (sep .from)) (sep-length (lastKey xs) (keyOf a) (last-key-fits xs full (i .isOpen .fit))) in
       rw (closeBefore, t) (record {
         closedGood = good-snoc none cs c (i .closedGood) good;
         closedFit = fit-snoc cs c (i .closedFit) (i .isOpen .small);
-        isOpen = rw (edge-snoc none cs c) (open-more (some (edge c)) [] a (no-open (some (edge c))) fits (above-none a) (λ e. follows-sep xs key a less sep));
+        isOpen = rw (edge-snoc none cs c) (open-more (some (edge c)) [] a (open-none (some (edge c))) fits (above-none a) (λ e. follows-sep xs key a less sep));
         start = λ e. absurd (omega arith);
         allDone = rw (all-snoc cs c, i .allDone);
       }))
       (λ t. rw (closeBefore, t) (record {
         closedGood = i .closedGood;
         closedFit = i .closedFit;
-        isOpen = open-more (lastEdge none cs) xs a (i .isOpen) fits up (λ e. first-none cs a (i .start e));
+        isOpen = open-more (lastEdge none cs) xs a (i .isOpen) fits up (λ e. none-to-follow cs a (i .start e));
         start = λ e. absurd (omega (arith, length-append xs (a ∷ [])));
         allDone = rw (← i .allDone) (simp append-assoc);
       }))
@@ -288,7 +288,7 @@ finished b done i = go (b .openBlock) refl
         let full : 0 < length (b .openBlock) = omega (arith, ap (λ (l : List Addition). length l) e) in
         let good : GoodChunk (lastEdge none (b .closed)) c =
         close-good (lastEdge none (b .closed)) (b .openBlock) (lastKey (b .openBlock)) (i .isOpen) full (below-itself (lastKey (b .openBlock)))
-        (last-fits (b .openBlock) full (i .isOpen .fit)) in
+        (last-key-fits (b .openBlock) full (i .isOpen .fit)) in
         record {
           good = rw (last-some b x xs e) (good-snoc none (b .closed) c (i .closedGood) good);
           fit = rw (last-some b x xs e) (fit-snoc (b .closed) c (i .closedFit) (i .isOpen .small));

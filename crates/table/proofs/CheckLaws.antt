@@ -2,13 +2,12 @@
 use Prim.Native.Nat.{ℕ, _+_, _^_, _≤_, _<_}
 use mathlib.Core.Path.{_≡_, refl, sym, ap, _∙_, subst}
 use mathlib.Core.List.{List, [], _∷_, _++_, append-assoc}
-use mathlib.Core.Bool.{true, false}
+use mathlib.Core.Bool.{true, false, or-true}
 use mathlib.Core.Option.{Option, none, some}
 use native.Mathlib.Omega.{arith}
 use lib.ListN.{length, length-append}
 use Rattle.codec.specs.Bytes.{sameBytes}
 use Rattle.codec.specs.Varint.{Handle, handleBytes}
-use Rattle.codec.proofs.Prelude.{or-true}
 use Rattle.codec.proofs.BytesLaws.{same-same}
 use Rattle.codec.proofs.VarintLaws.{Fits, one-handle}
 use Rattle.keys.specs.Order.{userOf, bytesBelow, below}
@@ -46,10 +45,10 @@ Good before (c ∷ cs) = GoodChunk before c × Good (some (edge c)) cs
 
 -- ---- steps of the check
 
-block-of : (i : ℕ) (pre post : List ℕ) (ps : List Pair) (kind : Kind) → length (blockBytes i ps) < 2 ^ 32 → enough kind ps ≡ true → all (entryFits kind) ps ≡ true
+block-passes : (i : ℕ) (pre post : List ℕ) (ps : List Pair) (kind : Kind) → length (blockBytes i ps) < 2 ^ 32 → enough kind ps ≡ true → all (entryFits kind) ps ≡ true
     → Table.blockOf (pre ++ (framed (blockBytes i ps) ++ post)) (its pre (blockBytes i ps)) kind ≡ pass (planned i i [] 0 ps)
 unfolding Table.blockOf orRefuse
-block-of i pre post ps kind small holds good =
+block-passes i pre post ps kind small holds good =
     rw (framed-contents pre (blockBytes i ps) post, formed-some kind (blockBytes i ps) _ (block-bytes i ps small) (rw (planned-pairs i i [] 0 ps) holds) (rw (planned-pairs i i [] 0 ps) good))
 
 data-some : (t : List ℕ) (f : Option (List ℕ)) (before : Option Edge) (key : List ℕ) (h : Handle) (es : List Entry) (ps : List Pair) → Fits h
@@ -70,10 +69,10 @@ index-some : (t : List ℕ) (h : Handle) (es : List Entry) → Table.sealed t h 
 unfolding Table.indexOf _>>=_ ask
 index-some t h es s b r = simp (s, b, r)
 
-filter-some : (t : List ℕ) (h : Handle) (s : List ℕ) → Table.placed t h ≡ pass tt → Table.sealed t h ≡ pass tt
+filter-passes : (t : List ℕ) (h : Handle) (s : List ℕ) → Table.placed t h ≡ pass tt → Table.sealed t h ≡ pass tt
     → Table.contents t h ≡ s → filterFormed s ≡ true → Table.filterOf t (some h) ≡ pass (some s)
 unfolding Table.filterOf _>>=_ ask
-filter-some t h s p q c e = simp (p, q, c, e)
+filter-passes t h s p q c e = simp (p, q, c, e)
 
 full-some : (t : List ℕ) (m i : Handle) (ms is : List Entry) (f : Option (List ℕ))
     → Table.footer t ≡ pass (record { metaindex = m; index = i }) → Table.metaindexOf t m ≡ pass ms → Table.indexOf t i ≡ pass is
@@ -88,7 +87,7 @@ module _ (o : Options) where
       → Table.blockOf (pre ++ (framed (chunkBytes o (c .additions)) ++ post)) (its pre (chunkBytes o (c .additions))) dataBlock
       ≡ pass (planned (o .interval) (o .interval) [] 0 (pairs c))
   unfolding chunkBytes
-  chunk-of pre post c small holds fit = block-of (o .interval) pre post (pairs c) dataBlock small holds fit
+  chunk-of pre post c small holds fit = block-passes (o .interval) pre post (pairs c) dataBlock small holds fit
 
   data-chunks : (pre post : List ℕ) (f : Option (List ℕ)) (before : Option Edge) (cs : List Chunk)
       → Good before cs → Lets o f (length pre) cs → length (pre ++ (written o cs ++ post)) < 2 ^ 32 → 48 ≤ length post
@@ -188,7 +187,7 @@ module _ (o : Options) (cs : List Chunk) (small : length (table o cs) ≤ tableL
   table-meta =
       rw (at-meta o cs)
       (meta-some _ _ _ (framed-sealed (untilMeta o cs) (metaBytes o cs) _)
-      (block-of d (untilMeta o cs) _ (metaPair o cs ∷ []) metaBlock (omega (arith, table-long o cs, lim)) (unfold enough in refl) meta-good)
+      (block-passes d (untilMeta o cs) _ (metaPair o cs ∷ []) metaBlock (omega (arith, table-long o cs, lim)) (unfold enough in refl) meta-good)
       (rw (planned-pairs d d [] 0 (metaPair o cs ∷ [])) (meta-rises (metaPair o cs))))
 
   table-index : Table.indexOf t (indexHandle o cs) ≡ pass (planned i i [] 0 (indexPairs o 0 cs))
@@ -196,27 +195,27 @@ module _ (o : Options) (cs : List Chunk) (small : length (table o cs) ≤ tableL
   table-index =
       rw (at-index o cs)
       (index-some _ _ _ (framed-sealed (untilIndex o cs) (indexBytes o cs) _)
-      (block-of i (untilIndex o cs) _ (indexPairs o 0 cs) indexBlock (omega (arith, table-long o cs, lim)) (unfold enough in refl)
+      (block-passes i (untilIndex o cs) _ (indexPairs o 0 cs) indexBlock (omega (arith, table-long o cs, lim)) (unfold enough in refl)
       (index-fit o none 0 cs good (omega (arith, table-long o cs, lim))))
       (rw (planned-pairs i i [] 0 (indexPairs o 0 cs)) rising))
 
   abbrev groups : List (List ℕ)
   groups = lastFilter (filtersOf o 0 noFilters cs) .made
 
-  filter-is : filterBytes o cs ≡ filterBlockBytes (o .filtering) groups
+  filter-made : filterBytes o cs ≡ filterBlockBytes (o .filtering) groups
   unfolding filterBytes
-  filter-is = refl
+  filter-made = refl
 
   made-small : length (madeBytes (o .filtering) groups) < 2 ^ 32
-  made-small = omega (arith, table-long o cs, lim, made-long (o .filtering) groups, ap length filter-is)
+  made-small = omega (arith, table-long o cs, lim, made-long (o .filtering) groups, ap length filter-made)
 
   table-filter : Table.filterOf t (some filterHandle) ≡ pass (some (filterBlockBytes (o .filtering) groups))
   table-filter =
       let rest = framed (metaBytes o cs) ++ (framed (indexBytes o cs) ++ foot o cs) in
       rw (at-filter o cs)
-      (filter-some _ _ _ (framed-placed (written o cs) (filterBytes o cs) rest (rw (← at-filter o cs) (omega (arith, table-long o cs, foot-long))))
+      (filter-passes _ _ _ (framed-placed (written o cs) (filterBytes o cs) rest (rw (← at-filter o cs) (omega (arith, table-long o cs, foot-long))))
       (framed-sealed (written o cs) (filterBytes o cs) rest)
-      (framed-contents (written o cs) (filterBytes o cs) rest ∙ filter-is) (formed (o .filtering) groups made-small))
+      (framed-contents (written o cs) (filterBytes o cs) rest ∙ filter-made) (formed (o .filtering) groups made-small))
 
   table-data : (f : Option (List ℕ)) → Lets o f 0 cs → Table.dataBlocksOf t f none (indexPairs o 0 cs) ≡ pass tt
   table-data f lets =

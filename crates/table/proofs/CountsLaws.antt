@@ -31,9 +31,9 @@ pub counts-begin : countsBegin
 unfolding countsOf noCounts begin filtersNow written indexPairs filtersOf
 counts-begin o = rw (count-none (o .interval), count-none (indexInterval o), wait-none noFilters, count-no-filters (o .filtering))
 
-handle-size : (offset size : ℕ) → length (handleBytes (record { offset = offset; size = size })) ≡ handleSize offset size
+handle-length : (offset size : ℕ) → length (handleBytes (record { offset = offset; size = size })) ≡ handleSize offset size
 unfolding handleBytes handleSize
-handle-size offset size = simp length-append
+handle-length offset size = simp length-append
 
 module _ (o : Options) where
   pub chunk-size : (xs : List Addition) → length (chunkBytes o xs) ≡ countSize (countOf (o .interval) (map pairOf xs))
@@ -57,7 +57,7 @@ module _ (o : Options) where
     close-index : countOf (indexInterval o) (indexPairs o 0 (close key b .closed))
         ≡ countEntry (indexInterval o) (countOf (indexInterval o) (indexPairs o 0 (b .closed))) key (handleSize before size)
     unfolding close indexPairs
-    close-index = rw (index-append o 0 (b .closed) _, zero-add, chunk-size (b .openBlock), count-entry, handle-size)
+    close-index = rw (index-append o 0 (b .closed) _, zero-add, chunk-size (b .openBlock), count-entry, handle-length)
 
     close-filters : filterCountOf (o .filtering) (filtersNow o (close key b)) ≡ countUpTo (o .filtering) (before + size + 5) (filterCountOf (o .filtering) (filtersNow o b))
     unfolding close filtersNow filtersOf endOf
@@ -122,13 +122,13 @@ module _ (o : Options) where
       go (x ∷ xs) zero e r = let z : _≡_ {A = ℕ} 0 1 = cc (count-zero (o .interval) (map pairOf (b .openBlock)) .0 r) in absurd (omega arith)
       go (x ∷ xs) (suc n) e r = rw (last-some b x xs e, count-last-some (countsOf o b) n r) (counts-close (lastKey (b .openBlock)) b)
 
-  filter-size : (cs : List Chunk) → length (filterBytes o cs) ≡ filterBlockSize (countLast (o .filtering) (filterCountOf (o .filtering) (filtersOf o 0 noFilters cs)))
+  filter-block-size : (cs : List Chunk) → length (filterBytes o cs) ≡ filterBlockSize (countLast (o .filtering) (filterCountOf (o .filtering) (filtersOf o 0 noFilters cs)))
   unfolding filterBytes
-  filter-size cs = rw (← count-last (o .filtering)) (count-block (o .filtering) (lastFilter (filtersOf o 0 noFilters cs)))
+  filter-block-size cs = rw (← count-last (o .filtering)) (count-block (o .filtering) (lastFilter (filtersOf o 0 noFilters cs)))
 
   meta-size : (cs : List Chunk) → length (metaBytes o cs) ≡ metaSize o (length (written o cs)) (length (filterBytes o cs))
   unfolding metaBytes metaSize metaPair
-  meta-size cs = rw (one-long, entry-long, handle-size)
+  meta-size cs = rw (one-long, entry-long, handle-length)
 
   index-size : (cs : List Chunk) → length (indexBytes o cs) ≡ countSize (countOf (indexInterval o) (indexPairs o 0 cs))
   unfolding indexBytes
@@ -142,5 +142,5 @@ pub size-finished : sizeFinished
 unfolding finish finishedSize countsOf
 size-finished o b =
     let cs = closeLast b .closed in
-    rw (← counts-last o b, last-filters o b, ← filter-size o cs)
+    rw (← counts-last o b, last-filters o b, ← filter-block-size o cs)
     (omega (arith, table-length o cs, meta-size o cs, index-size o cs))

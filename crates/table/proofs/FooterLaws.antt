@@ -1,12 +1,11 @@
 -- The footer, as code decodes it: the magic as a number, where a block may stand, and both handles.
 use Prim.Native.Nat.{ℕ, _+_, _-_, _≤_, _<_, _^_}
-use mathlib.Core.Path.{_≡_, refl, sym, ap, _∙_}
+use mathlib.Core.Path.{_≡_, refl, sym, _∙_}
 use mathlib.Core.Bool.{true, false}
 use mathlib.Core.List.{List}
 use native.Mathlib.Omega.{arith}
 use lib.Dec.{leb, eqb, lit<}
 use lib.ListN.{length, take, drop, getD, length-drop}
-use lib.Seq.{take-all}
 use borrow.Author.Tests.{le-leb, lt-leb, leb-true, leb-false}
 use Rattle.codec.specs.Bytes.{part, bytesOf, numberOf, numberAt, sameBytes}
 use Rattle.codec.specs.Varint.{handle}
@@ -15,8 +14,8 @@ use Rattle.codec.specs.declared.fixed.U64Read.the-variants as U64Case
 use Rattle.codec.specs.declared.blockhandle.HandleRead.the-variants as HandleCase
 use Rattle.codec.proofs.Prelude.{test}
 use Rattle.codec.proofs.Lists.{below-all, below-drop}
-use Rattle.codec.proofs.BytesLaws.{same-number}
-use Rattle.codec.proofs.FixedLaws.{number-in}
+use Rattle.codec.proofs.BytesLaws.{part-end, same-number}
+use Rattle.codec.proofs.FixedLaws.{number-read, a-u64}
 use Rattle.codec.proofs.VarintCode.{no-handle, a-handle}
 use Rattle.table.specs.declared.footer.FooterRead.the-variants as FooterCase
 use Rattle.table.specs.Answers.{footerAnswer}
@@ -44,35 +43,18 @@ magic-is : magic ≡ bytesOf 8 0xdb47_7524_8b80_fb57
 unfolding magic bytesOf
 magic-is = refl
 
--- the last 8 bytes, as a part and as what is left
-last-eight : (t : List ℕ) → 8 ≤ length t → (part t (length t - 8) 8 ≡ drop (length t - 8) t) × (length (drop (length t - 8) t) ≡ 8)
-unfolding part
-last-eight t l =
-    let n : length (drop (length t - 8) t) ≡ 8 = simp length-drop (omega arith) in
-    (take-all 8 (drop (length t - 8) t) (omega arith), n)
-
 magic-number : (t : List ℕ) → 48 ≤ length t → ((i : ℕ) → getD t i 0 < 256)
     → eqb (numberOf (part t (length t - 8) 8)) 0xdb47_7524_8b80_fb57 ≡ sameBytes (drop (length t - 8) t) magic
 magic-number t l b =
-    let (w, n) = last-eight t (omega arith) in
+    let w = part-end t (length t - 8) 8 (omega arith) in
+    let n : length (drop (length t - 8) t) ≡ 8 = simp length-drop (omega arith) in
     let m : magic ≡ bytesOf (length (drop (length t - 8) t)) 0xdb47_7524_8b80_fb57 = rw n magic-is in
     rw (w, m) (sym (same-number (drop (length t - 8) t) 0xdb47_7524_8b80_fb57 (below-drop 256 (length t - 8) t (below-all 256 t b)) (rw n (lit< tt))))
 
 -- what reading the last 8 bytes says
-module _ (t : List ℕ) (l : 48 ≤ length t) where
-  eight-there : u64Answer (numberAt 8 t (length t - 8)) ≡ U64Case.Value (numberOf (part t (length t - 8) 8))
-  unfolding u64Answer
-  eight-there = ap u64Answer (number-in 8 t (length t - 8) (omega arith))
-
-  pub some-eight : u64Answer (numberAt 8 t (length t - 8)) ≡ U64Case.Bad → ⊥
-  some-eight e = let f = eight-there in let z : _≡_ {A = ℕ} 0 1 = cc in omega arith
-
-  pub magic-read : {x : ℕ} → ((i : ℕ) → getD t i 0 < 256) → u64Answer (numberAt 8 t (length t - 8)) ≡ U64Case.Value x
-      → eqb x 0xdb47_7524_8b80_fb57 ≡ sameBytes (drop (length t - 8) t) magic
-  magic-read {x} b e =
-      let f = eight-there in
-      let same : x ≡ numberOf (part t (length t - 8) 8) = cc in
-      rw same (magic-number t l b)
+pub magic-read : (t : List ℕ) → 48 ≤ length t → {x : ℕ} → ((i : ℕ) → getD t i 0 < 256) → u64Answer (numberAt 8 t (length t - 8)) ≡ U64Case.Value x
+    → eqb x 0xdb47_7524_8b80_fb57 ≡ sameBytes (drop (length t - 8) t) magic
+magic-read t l b e = rw (number-read 8 t (length t - 8) (omega arith) (a-u64 _ e)) (magic-number t l b)
 
 -- ---- both handles
 

@@ -127,16 +127,16 @@ module _ (t : List ℕ) where
       let h = handleOf (ix .value) in
       v .is ∙ part-part t (h .offset) (h .size) (e .valueAt) (length (e .value)) (omega (arith, v .ends, part-most t (h .offset) (h .size)))
 
-  blocks-stand : (ixs : List Entry) → All (Stands t) (readBlocks t ixs)
+  blocks-values : (ixs : List Entry) → All (Stands t) (readBlocks t ixs)
   unfolding readBlocks foundsOf
-  blocks-stand [] = All.nil
-  blocks-stand (ix ∷ ixs) =
-      all-append (all-map (foundIn ix) (all-imp (entry-stands ix) (entries-values t (handleOf (ix .value))))) (blocks-stand ixs)
+  blocks-values [] = All.nil
+  blocks-values (ix ∷ ixs) =
+      all-append (all-map (foundIn ix) (all-imp (entry-stands ix) (entries-values t (handleOf (ix .value))))) (blocks-values ixs)
 
 pub values-stand : valuesStand
 unfolding plain
 values-stand t x m = all-mem (go (footer t) refl) m
   where
     go : (c : Checked Footer) → footer t ≡ c → All (Stands t) (plain t)
-    go (pass ft) e = rw (e, plain) (blocks-stand t (entriesAt t (ft .index)))
+    go (pass ft) e = rw (e, plain) (blocks-values t (entriesAt t (ft .index)))
     go (refuse n) e = rw (e, plain) All.nil

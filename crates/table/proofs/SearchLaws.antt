@@ -1,22 +1,21 @@
 -- The first entry that passes a test: in rising entries it is the least; in a passed table it is found through the index.
 use Prim.Native.Nat.{ℕ, _≤_}
 use mathlib.Core.Path.{_≡_, refl, sym, _∙_, ap, ap₂}
-use mathlib.Core.List.{List, [], _∷_, _++_, map, head?, List·Memᴰ, List·Memᴰ·head, List·Memᴰ·tail, List·Memᴰ·cases-cons, List·Memᴰ·not-nil}
-use mathlib.Core.Bool.{Bool, true, false, not}
+use mathlib.Core.List.{List, [], _∷_, _++_, head?, List·Memᴰ, List·Memᴰ·head, List·Memᴰ·tail, List·Memᴰ·cases-cons, List·Memᴰ·not-nil}
+use mathlib.Core.Bool.{Bool, true, false, not, false≢true}
 use mathlib.Core.Option.{Option, none, some, Option·some-inj, Option·none-ne-some}
 use mathlib.Core.Logic.{_⊎_, inl, inr, ⊎-elim, ⊎-map, _↔_}
 use lib.Dec.{T, T-not, not-T, leb, leb→le, le→leb}
 use Rattle.codec.specs.Bytes.{sameBytes}
 use Rattle.codec.specs.Maybe.{first}
-use Rattle.codec.proofs.Prelude.{test, true-is, false-true, is-true, decide, and-l, and-r, and-i}
+use Rattle.codec.proofs.Prelude.{test, true-is, is-true, decide, and-l, and-r, and-i}
 use Rattle.codec.proofs.Lists.{All, Pairs, all-mem, all-imp, all-of, orElse, first-yes, first-no, first-append, first-none, none-first, first-all, first-some, pairs-at}
 use Rattle.codec.proofs.BytesLaws.{same-bytes, bytes-same-as}
 use Rattle.keys.specs.Order.{userOf, seqOf, isLess, byBytes, Point, pointOf, byPoint, below}
 use Rattle.keys.proofs.OrderLaws.{three-ways, bytes-eq, Less, UpTo, _≺_, _≼_, ≼-self, ≼-edition, edition-≼, ≼-word, bytes-laws, less-or, less-not-upTo, ≼-≺, ≼-trans, ≺-weak}
-use Rattle.block.specs.Block.{Entry, pairsOf}
-use Rattle.block.specs.Formed.{dataBlock, enough}
+use Rattle.block.specs.Block.{Entry}
 use Rattle.table.specs.Checked.{pass}
-use Rattle.table.specs.Table.{Opened, opened, mayHold, handleOf, Found, foundIn, entriesAt, foundsOf, readBlocks, plain}
+use Rattle.table.specs.Table.{Opened, opened, mayHold, handleOf, Found, foundsOf, readBlocks, plain}
 use Rattle.table.specs.Promise.{Passed, notBelow, seekOf, isFor, lookupOf, seekMeans, lookupMeans, seekNone, lookupNone, entriesRise}
 use Rattle.table.proofs.StandLaws.{Before, Settled, Laid, laid, opens, stands, open-reading, reading-rises}
 
@@ -193,14 +192,6 @@ module _ (t : List ℕ) (f : Option (List ℕ)) (k : Point) where
       s .0 ∙ ap (orElse (first (notBelow k) (foundsOf t ix)))
       (first-all (notBelow k) (all-imp (λ x u. ≺-weak (≼-≺ r u) .is) (s .1 .beyond)))
 
-  -- the first of the next block, where there is one
-  pub next-head : (nx : Entry) (cs : List Entry) → Laid t f (nx ∷ cs) → (x : Found) × (head? (readBlocks t (nx ∷ cs)) ≡ some x) × (head? (foundsOf t nx) ≡ some x)
-  unfolding readBlocks foundsOf enough
-  next-head nx cs (Laid.cons s l) = go (entriesAt t (handleOf (nx .value))) (s .some)
-    where
-      go : (es : List Entry) → T (enough dataBlock (pairsOf es)) → (x : Found) × (head? (map (foundIn nx) es ++ readBlocks t cs) ≡ some x) × (head? (map (foundIn nx) es) ≡ some x)
-      go (e ∷ es) u = (foundIn nx e, refl, refl)
-
 -- ---- lookup
 
 bytes-antisym : {a b : List ℕ} → UpTo byBytes a b → UpTo byBytes b a → a ≡ b
@@ -250,7 +241,7 @@ for-by-reach k (x ∷ xs) (Pairs.cons q qs) = ⊎-elim yes′ (no′ (for-by-rea
         let here : For k x = record { word = same; old = ≼-edition (sym same) reach } in
         rw (first-yes (notBelow k) x xs n, first-yes (isFor k) x xs (for-is k x .1 here), t, onlyWord))
         (λ t.
-        let other : For k x → ⊥ = λ h. false-true (sym t ∙ is-true _ (bytes-same-as (userOf (x .key)) (k .word) (h .word))) in
+        let other : For k x → ⊥ = λ h. false≢true (sym t ∙ is-true _ (bytes-same-as (userOf (x .key)) (k .word) (h .word))) in
         rw (first-yes (notBelow k) x xs n, first-no (isFor k) x xs (not-for k x other), t, onlyWord)
         (first-none (isFor k) (all-imp (λ y r. not-for k y (λ v. other (earlier-for k reach (≺-weak r) v))) q)))
 
@@ -275,14 +266,14 @@ module _ (t : List ℕ) (f : Option (List ℕ)) (k : Point) where
       → first (isFor k) (readBlocks t (bs ++ (ix ∷ cs))) ≡ first (isFor k) (foundsOf t ix)
   lookup-two bs ix cs l h r =
       let s = skip t f (isFor k) k (lower-not-for k) bs ix cs l h in
-      s .0 ∙ ⊎-elim (λ a. at-last (s .1) a) (λ a. or-none _ _ (first-none (isFor k) (all-imp (λ x u. not-for k x (λ v. clash u v)) a))) (s .1 .apart)
+      s .0 ∙ ⊎-elim (λ a. in-this-block (s .1) a) (λ a. or-none _ _ (first-none (isFor k) (all-imp (λ x u. not-for k x (λ v. clash u v)) a))) (s .1 .apart)
     where
       clash : {x : Found} → Less byBytes (userOf (ix .key)) (userOf (x .key)) → For k x → ⊥
       clash u v = less-not-upTo u (rw (v .word) (≼-word r))
 
-      at-last : Settled t f ix cs → (z : Found) × List·Memᴰ z (foundsOf t ix) × (pointOf (ix .key) ≼ pointOf (z .key))
+      in-this-block : Settled t f ix cs → (z : Found) × List·Memᴰ z (foundsOf t ix) × (pointOf (ix .key) ≼ pointOf (z .key))
           → orElse (first (isFor k) (foundsOf t ix)) (first (isFor k) (readBlocks t cs)) ≡ first (isFor k) (foundsOf t ix)
-      at-last s a =
+      in-this-block s a =
           let z : Found = a .0 in
           let at-least : k ≼ pointOf (z .key) = ≼-trans r (a .2) in
           ⊎-elim (λ y. or-some _ _ (first-some (isFor k) (a .1) y .1))

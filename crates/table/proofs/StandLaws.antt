@@ -13,7 +13,7 @@ use Rattle.keys.specs.Order.{userOf, byBytes, bytesBelow, Point, pointOf, byPoi
 use Rattle.keys.proofs.OrderLaws.{isEq-eq, Less, _≺_, _≼_, ≼-self, point-laws, bytes-laws, less-upTo-trans, same-upTo, ≼-word, ≺-trans, ≺-≼, ≼-≺, ≼-trans, ≺-weak}
 use Rattle.block.specs.Block.{Pair, Entry, pairsOf, lastKeyOf}
 use Rattle.block.specs.Formed.{Kind, dataBlock, indexBlock, all, enough, rises}
-use Rattle.block.proofs.FormedLaws.{formed-read}
+use Rattle.block.proofs.FormedLaws.{asPair, formed-read, rises-pairs}
 use Rattle.block.proofs.ReadLaws.{EntryBefore}
 use Rattle.table.specs.Checked.{pass}
 use Rattle.table.specs.Table.{contents, placed, sealed, blockOf, indexOf, mayHold, Edge, follows, firstFollows, handleOf, dataBlockOf, dataBlocksOf, Opened, opened, fullCheck, Found, foundIn, entriesAt, foundsOf, readBlocks, plain}
@@ -26,9 +26,6 @@ block-of t h kind {es} p =
     let r = formed-read kind (contents t h) (orRefuse-pass 10 _ p) in
     (rw (r .reads, entriesAt) (r .entries), r .holds)
 
-abbrev pairOf : Entry → Pair
-pairOf e = record { key = e .key; value = e .value }
-
 abbrev pairsIn : List ℕ → Entry → List Pair
 pairsIn t ix = pairsOf (entriesAt t (handleOf (ix .value)))
 
@@ -40,7 +37,7 @@ pub record BlockStands (t : List ℕ) (f : Option (List ℕ)) (before : Option E
   pub ends : T (not (below (ix .key) (lastKeyOf [] (pairsIn t ix))))
   pub may : T (all (λ (p : Pair). mayHold f (handleOf (ix .value) .offset) (userOf (p .key))) (pairsIn t ix))
 
-pub block-stands : (t : List ℕ) (f : Option (List ℕ)) (before : Option Edge) (ix : Entry) {ps : List Pair} → dataBlockOf t f before (pairOf ix) ≡ pass ps → (pairsIn t ix ≡ ps) × BlockStands t f before ix
+pub block-stands : (t : List ℕ) (f : Option (List ℕ)) (before : Option Edge) (ix : Entry) {ps : List Pair} → dataBlockOf t f before (asPair ix) ≡ pass ps → (pairsIn t ix ≡ ps) × BlockStands t f before ix
 unfolding dataBlockOf placed sealed
 block-stands t f before ix {ps} p =
     asking _ _ _ p λ inside p.
@@ -106,16 +103,6 @@ stands t o p op =
 
 abbrev pub Before : Found → Found → Type 0
 Before a b = pointOf (a .key) ≺ pointOf (b .key)
-
-pub rises-pairs : (es : List Entry) → T (rises below (pairsOf es)) → Pairs EntryBefore es
-unfolding rises below
-rises-pairs [] r = Pairs.nil
-rises-pairs (a ∷ []) r = Pairs.cons All.nil Pairs.nil
-rises-pairs (a ∷ b ∷ es) r =
-    step (record { is = and-l (below (a .key) (b .key)) (rises below (pairsOf (b ∷ es))) r }) (rises-pairs (b ∷ es) (and-r (below (a .key) (b .key)) (rises below (pairsOf (b ∷ es))) r))
-  where
-    step : pointOf (a .key) ≺ pointOf (b .key) → Pairs EntryBefore (b ∷ es) → Pairs EntryBefore (a ∷ b ∷ es)
-    step h (Pairs.cons q qs) = Pairs.cons (All.cons h (all-imp (λ x s. ≺-trans h s) q)) (Pairs.cons q qs)
 
 -- a rising block ends in its largest key
 pub up-to-last : (e : Entry) (es : List Entry) → Pairs EntryBefore (e ∷ es) → All (λ x. pointOf (x .key) ≼ pointOf (lastKeyOf [] (pairsOf (e ∷ es)))) (e ∷ es)
@@ -201,10 +188,10 @@ pub data Laid (t : List ℕ) (f : Option (List ℕ)) : List Entry → Type 0 whe
   nil : Laid t f []
   cons : {ix : Entry} {ixs : List Entry} → Settled t f ix ixs → Laid t f ixs → Laid t f (ix ∷ ixs)
 
-all-entries : (g : Pair → Bool) (es : List Entry) → T (all g (pairsOf es)) → All (λ (e : Entry). T (g (pairOf e))) es
+all-entries : (g : Pair → Bool) (es : List Entry) → T (all g (pairsOf es)) → All (λ (e : Entry). T (g (asPair e))) es
 unfolding all
 all-entries g [] a = All.nil
-all-entries g (e ∷ es) a = All.cons (and-l (g (pairOf e)) (all g (pairsOf es)) a) (all-entries g es (and-r (g (pairOf e)) (all g (pairsOf es)) a))
+all-entries g (e ∷ es) a = All.cons (and-l (g (asPair e)) (all g (pairsOf es)) a) (all-entries g es (and-r (g (asPair e)) (all g (pairsOf es)) a))
 
 -- the first of rising entries is at most each of them
 first-least : {x : Found} {xs : List Found} → Pairs Before (x ∷ xs) → All (λ (y : Found). pointOf (x .key) ≼ pointOf (y .key)) (x ∷ xs)

@@ -58,32 +58,32 @@ empty-most unfiltered = omega arith
 empty-most (bitsPerKey b) = omega arith
 
 module _ (o : Options) where
-  no-filter : length (filterBytes o []) ≡ 5
+  empty-filter-size : length (filterBytes o []) ≡ 5
   unfolding filterBytes lastFilter filtersOf noFilters madeBytes starts filterBlockBytes filterBlockOf fours bytesOf
-  no-filter = refl
+  empty-filter-size = refl
 
-  no-written : length (written o []) ≡ 0
+  empty-written-size : length (written o []) ≡ 0
   unfolding written
-  no-written = refl
+  empty-written-size = refl
 
-  no-index : length (indexBytes o []) ≡ 8
+  empty-index-size : length (indexBytes o []) ≡ 8
   unfolding indexBytes indexPairs
-  no-index = none-long (indexInterval o)
+  empty-index-size = none-long (indexInterval o)
 
   meta-is : metaPair o [] ≡ record { key = metaName (o .filtering); value = 0 ∷ 5 ∷ [] }
   unfolding metaPair handleBytes varintBytes varintBytesF
-  meta-is = rw (no-filter, no-written)
+  meta-is = rw (empty-filter-size, empty-written-size)
 
-  entry-is : (c : Filtering) → length (entryBytes 0 (record { key = metaName c; value = 0 ∷ 5 ∷ [] })) + 84 ≡ emptySize c
+  empty-meta-size : (c : Filtering) → length (entryBytes 0 (record { key = metaName c; value = 0 ∷ 5 ∷ [] })) + 84 ≡ emptySize c
   unfolding entryBytes headBytes varintBytes varintBytesF metaName bloomName emptySize
-  entry-is unfiltered = refl
-  entry-is (bitsPerKey b) = refl
+  empty-meta-size unfiltered = refl
+  empty-meta-size (bitsPerKey b) = refl
 
   pub empty-size : length (table o []) ≡ emptySize (o .filtering)
   empty-size =
       let one : length (metaBytes o []) ≡ length (entryBytes 0 (record { key = metaName (o .filtering); value = 0 ∷ 5 ∷ [] })) + 8 =
       unfold metaBytes in rw meta-is (one-long (o .interval) _) in
-      omega (arith, table-length o [], entry-is (o .filtering), no-written, no-filter, no-index)
+      omega (arith, table-length o [], empty-meta-size (o .filtering), empty-written-size, empty-filter-size, empty-index-size)
 
   pub empty-small : length (table o []) ≤ tableLimit
   unfolding tableLimit

@@ -36,9 +36,9 @@ use Rattle.table.proofs.CountsLaws.{chunk-size, counts-close, counts-la
 
 -- ---- each entry takes 4 bytes at least
 
-key-long : (p : Pair) → (entryFits dataBlock) p ≡ true → 9 ≤ length (p .key)
+key-nine : (p : Pair) → (entryFits dataBlock) p ≡ true → 9 ≤ length (p .key)
 unfolding entryFits
-key-long p h = within-parts 9 1032 (length (p .key)) (both (within 9 1032 (length (p .key))) (leb (length (p .value)) 32768) h .0) .0
+key-nine p h = within-parts 9 1032 (length (p .key)) (both (within 9 1032 (length (p .key))) (leb (length (p .value)) 32768) h .0) .0
 
 rising-fresh : (p : Pair) (ps : List Pair) → all (entryFits dataBlock) ps ≡ true → rises below (p ∷ ps) ≡ true → Fresh (p .key) ps
 unfolding all rises
@@ -46,7 +46,7 @@ rising-fresh p [] fit up = tt
 rising-fresh p (q ∷ ps) fit up =
     let (f, g) = both ((entryFits dataBlock) q) (all (entryFits dataBlock) ps) fit in
     let (u, v) = both (below (p .key) (q .key)) (rises below (q ∷ ps)) up in
-    let l = key-long q f in
+    let l = key-nine q f in
     (above-fresh (p .key) (q .key) (omega arith) u, rising-fresh q ps g v)
 
 all-fresh : (ps : List Pair) → all (entryFits dataBlock) ps ≡ true → rises below ps ≡ true → Fresh [] ps
@@ -54,7 +54,7 @@ unfolding all common
 all-fresh [] fit up = tt
 all-fresh (p ∷ ps) fit up =
     let (f, g) = both ((entryFits dataBlock) p) (all (entryFits dataBlock) ps) fit in
-    let l = key-long p f in
+    let l = key-nine p f in
     (omega arith, rising-fresh p ps g up)
 
 module _ (o : Options) where

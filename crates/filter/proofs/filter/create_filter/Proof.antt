@@ -1,7 +1,7 @@
 -- `filter::filter::create_filter` meets its contract.
 use borrow.Author.Needs.{needs}
 use Rattle.filter.specs.Choice.{choiceOf}
-use Rattle.filter.proofs.FilterCode.{no-filter-none, no-filter, filter-some}
+use Rattle.filter.proofs.FilterCode.{no-filter-none, no-filter, filter-chosen}
 use Rattle.filter.proofs.filter.create_filter.Statement.{statement}
 use Rattle.filter.proofs.filter.create_filter.Tie as tie
 
@@ -42,7 +42,7 @@ same-length-3 : tie.Need-same-length-3
 same-length-3 c = search needs
 
 returns-3 : tie.Need-returns-3
-returns-3 c = let a = c .before .before .before .before .before .before .before .before .before .before .args in rw (filter-some (a .choice) (a .hashes .now) (c .before .before .before .before .before .before .choice .given .1) (c .before .before .before .before .if1 .left)) (c .before .before .write-filter .ensures)
+returns-3 c = let a = c .before .before .before .before .before .before .before .before .before .before .args in rw (filter-chosen (a .choice) (a .hashes .now) (c .before .before .before .before .before .before .choice .given .1) (c .before .before .before .before .if1 .left)) (c .before .before .write-filter .ensures)
 
 pub create-filter-spec : {M : Type 1} → statement M
 create-filter-spec =

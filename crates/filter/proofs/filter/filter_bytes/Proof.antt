@@ -5,7 +5,7 @@ use borrow.Author.Needs.{needs}
 use Rattle.filter.specs.Choice.{choiceOf}
 use Rattle.filter.specs.FilterCount.{filterBytesOf}
 use Rattle.filter.proofs.FilterCode.{no-bytes-none, bytes-some}
-use Rattle.filter.proofs.FilterCountLaws.{no-bytes}
+use Rattle.filter.proofs.FilterCountLaws.{no-hashes}
 use Rattle.filter.proofs.filter.filter_bytes.Statement.{statement}
 use Rattle.filter.proofs.filter.filter_bytes.Tie as tie
 
@@ -25,7 +25,7 @@ returns : tie.Need-returns
 returns c = let a = c .before .before .args in omega (arith, no-bytes-none (a .choice) (a .n) (c .enum-told .given .1))
 
 returns-2 : tie.Need-returns-2
-returns-2 c = let a = c .before .before .before .before .args in omega (arith, ap (filterBytesOf (choiceOf (a .choice))) (c .if1 .taken) ∙ no-bytes (choiceOf (a .choice)))
+returns-2 c = let a = c .before .before .before .before .args in omega (arith, ap (filterBytesOf (choiceOf (a .choice))) (c .if1 .taken) ∙ no-hashes (choiceOf (a .choice)))
 
 returns-3 : tie.Need-returns-3
 returns-3 c = let a = c .before .before .before .before .before .args in omega (arith, c .filter-size .ensures, bytes-some (a .choice) (a .n) (c .before .before .before .choice .given .1) (c .before .if1 .left))

@@ -2,7 +2,7 @@
 use native.Mathlib.Nat.{add-zero}
 use native.Mathlib.Omega.{arith}
 use borrow.Author.Needs.{needs}
-use Rattle.filter.proofs.HashLaws.{number-is}
+use Rattle.codec.proofs.FixedLaws.{number-is}
 use Rattle.filter.proofs.filter.word.Statement.{statement}
 use Rattle.filter.proofs.filter.word.Tie as tie
 
@@ -60,7 +60,7 @@ add-result-3 c = search needs
 returns : tie.Need-returns
 returns c =
     let a = c .before .before .before .before .before .before .before .before .before .args in
-    omega (arith, rw (add-zero (a .i)) at (number-is (a .s .now) (a .i) 4 (search needs)))
+    omega (arith, rw (add-zero (a .i)) at (number-is 4 (a .s .now) (a .i) (search needs)))
 
 pub word-spec : {M : Type 1} → statement M
 word-spec =

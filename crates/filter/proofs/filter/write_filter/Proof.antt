@@ -5,7 +5,7 @@ use lib.ListN.{length}
 use borrow.Author.Needs.{needs}
 use Rattle.codec.proofs.PutLaws.{wrote-full}
 use Rattle.filter.proofs.FilterCode.{mid-length, wrote-filter}
-use Rattle.filter.proofs.FilterLaws.{filter-length, size-is, probes-most}
+use Rattle.filter.proofs.FilterLaws.{filter-length, size-eighths, probes-most}
 use Rattle.filter.proofs.filter.write_filter.Statement.{statement}
 use Rattle.filter.proofs.filter.write_filter.Tie as tie
 
@@ -39,7 +39,7 @@ part-write-bits-end c = search needs
 write-bits-requires : tie.Need-write-bits-requires
 write-bits-requires c κs =
     let a = c .before .before .before .before .before .before .before .args in
-    omega (arith, mid-length (a .out .now) (a .at) (c .before .before .before .before .filter-size .result) (omega arith), c .before .before .before .before .filter-size .ensures, size-is (length (a .hashes .now) * a .bits))
+    omega (arith, mid-length (a .out .now) (a .at) (c .before .before .before .before .filter-size .result) (omega arith), c .before .before .before .before .filter-size .ensures, size-eighths (length (a .hashes .now) * a .bits))
 
 cast-out : tie.Need-cast-out
 cast-out c = omega (arith, c .before .before .before .before .probe-count .ensures, probes-most (c .before .before .before .before .before .before .before .before .before .before .args .bits))

@@ -1,5 +1,5 @@
 -- `keys::cmp::find_internal_sep` meets its contract.
-use Rattle.keys.proofs.AnswerLaws.{wrote-as}
+use Rattle.codec.proofs.PutLaws.{wrote-as}
 use Rattle.keys.proofs.PlanLaws.{fits-raised, internal-whole, internal-longer, internal-long, internal-short}
 use borrow.Author.Needs.{needs}
 use Rattle.keys.proofs.cmp.find_internal_sep.Statement.{statement}

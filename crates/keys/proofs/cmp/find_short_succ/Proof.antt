@@ -1,7 +1,7 @@
 -- `keys::cmp::find_short_succ` meets its contract.
 use mathlib.Core.Path.{sym, _∙_}
 use lib.Seq.{length-take-le}
-use Rattle.keys.proofs.AnswerLaws.{wrote-as}
+use Rattle.codec.proofs.PutLaws.{wrote-as}
 use Rattle.keys.proofs.PlanLaws.{succ-here, succ-ended}
 use borrow.Author.Needs.{needs}
 use native.Mathlib.Omega.{arith}

@@ -1,5 +1,5 @@
 -- `keys::cmp::find_shortest_sep` meets its contract.
-use Rattle.keys.proofs.AnswerLaws.{wrote-as}
+use Rattle.codec.proofs.PutLaws.{wrote-as}
 use borrow.Author.Needs.{needs}
 use Rattle.keys.proofs.cmp.find_shortest_sep.Statement.{statement}
 use Rattle.keys.proofs.cmp.find_shortest_sep.Tie as tie

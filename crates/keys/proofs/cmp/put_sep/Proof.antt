@@ -1,7 +1,7 @@
 -- `keys::cmp::put_sep` meets its contract.
 use mathlib.Core.Path.{sym, ap}
 use Rattle.keys.specs.Plan.{sepBytes}
-use Rattle.keys.proofs.AnswerLaws.{wrote-as}
+use Rattle.codec.proofs.PutLaws.{wrote-as}
 use Rattle.keys.proofs.PlanLaws.{fits-raised}
 use borrow.Author.Needs.{needs}
 use Rattle.keys.proofs.cmp.put_sep.Statement.{statement}

@@ -1,10 +1,10 @@
 -- `keys::key_types::build_internal_key` meets its contract: there is room for both, so that the first write is not refused.
 use Prim.Native.Nat.{_+_, _*_}
-use Rattle.codec.proofs.PutLaws.{wrote-full, wrote-never, wrote-then}
+use Rattle.codec.proofs.PutLaws.{wrote-full, wrote-never, wrote-then, wrote-as}
 use Rattle.codec.proofs.BytesLaws.{bytes-length}
 use Rattle.keys.specs.Order.{internal}
 use Rattle.keys.proofs.KeyLaws.{internal-length}
-use Rattle.keys.proofs.AnswerLaws.{wrote-as, tag-bytes}
+use Rattle.keys.proofs.AnswerLaws.{tag-bytes}
 use borrow.Author.Needs.{needs}
 use native.Mathlib.Omega.{arith}
 use Rattle.keys.proofs.key_types.build_internal_key.Statement.{statement}

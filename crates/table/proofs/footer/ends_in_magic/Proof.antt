@@ -1,6 +1,8 @@
 -- `table::footer::ends_in_magic` meets its contract: the last 8 bytes are the magic just where they make its number.
 use mathlib.Core.Path.{sym, _∙_}
-use Rattle.table.proofs.FooterLaws.{some-eight, magic-read}
+use native.Mathlib.Omega.{arith}
+use Rattle.codec.proofs.FixedLaws.{number-there, no-u64}
+use Rattle.table.proofs.FooterLaws.{magic-read}
 use borrow.Author.Needs.{needs}
 use Rattle.table.proofs.footer.ends_in_magic.Statement.{statement}
 use Rattle.table.proofs.footer.ends_in_magic.Tie as tie
@@ -18,7 +20,7 @@ enum-known-x : tie.Need-enum-known-x
 enum-known-x c = search needs
 
 returns : tie.Need-returns
-returns c = absurd (some-eight _ (c .before .before .before .before .pre) (sym (c .before .before .read-u64 .ensures) ∙ c .enum-told .given .1))
+returns c = absurd (number-there 8 _ _ (omega (arith, c .before .before .before .before .pre)) (no-u64 _ (sym (c .before .before .read-u64 .ensures) ∙ c .enum-told .given .1)))
 
 returns-2 : tie.Need-returns-2
 returns-2 c = magic-read _ (c .before .before .before .before .before .pre) (λ i. c .before .before .before .before .shared-slice-known .given i .fits) (sym (c .before .before .before .read-u64 .ensures) ∙ c .before .x .given .1)
