@@ -15,6 +15,11 @@ pub struct Taken {
     pub next: usize,
 }
 
+// The first bytes of a buffer.
+pub fn front(s: &[u8], len: usize) -> &[u8] {
+    if len <= s.len() { &s[0..len] } else { s }
+}
+
 // A place further, as far as numbers go.
 pub fn further(at: usize) -> usize {
     if at < 0xffff_ffff { at + 1 } else { at }

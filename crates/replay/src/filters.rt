@@ -1,5 +1,6 @@
 // Commands on filters and filter blocks.
 use crate::fields;
+use crate::fields::front;
 use crate::show;
 use filter::filter as bloom;
 use filter::filter::Filter;
@@ -8,10 +9,6 @@ use filter::filter_block::Made;
 
 pub fn knows(op: u8) -> bool {
     op == b'h' || op == b'b' || op == b'f' || op == b'm' || op == b'w' || op == b'q' || op == b'M'
-}
-
-fn front(s: &[u8], len: usize) -> &[u8] {
-    if len <= s.len() { &s[0..len] } else { s }
 }
 
 fn choice(bits: usize) -> Filter {
@@ -89,19 +86,11 @@ fn create(s: &[u8], at: usize, end: usize) {
     }
 }
 
-fn yes(b: bool, other: &[u8], one: &[u8]) {
-    if b {
-        show::say(one);
-    } else {
-        show::say(other);
-    }
-}
-
 fn may(s: &[u8], at: usize) {
     let mut a = [0u8; 2600];
     let fa = fields::field(s, at, &mut a);
     let h = one_hash(s, fa.next);
-    yes(
+    show::yes(
         bloom::key_may_match(front(&a, fa.len), h.hash),
         b" no",
         b" may",
@@ -111,7 +100,7 @@ fn may(s: &[u8], at: usize) {
 fn formed(s: &[u8], at: usize) {
     let mut a = [0u8; 2600];
     let fa = fields::field(s, at, &mut a);
-    yes(
+    show::yes(
         filter_block::is_formed(front(&a, fa.len)),
         b" not",
         b" formed",
@@ -123,7 +112,7 @@ fn asked(s: &[u8], at: usize) {
     let fa = fields::field(s, at, &mut a);
     let offset = fields::number(s, fa.next);
     let h = one_hash(s, offset.next);
-    yes(
+    show::yes(
         filter_block::may_match(front(&a, fa.len), offset.value, h.hash),
         b" no",
         b" may",

@@ -1,5 +1,6 @@
 // Commands on keys.
 use crate::fields;
+use crate::fields::front;
 use crate::show;
 use keys::cmp;
 use keys::cmp::Ordering;
@@ -16,11 +17,6 @@ pub fn knows(op: u8) -> bool {
         || op == b'u'
         || op == b's'
         || op == b'n'
-}
-
-// The first bytes of a buffer.
-fn front(s: &[u8], len: usize) -> &[u8] {
-    if len <= s.len() { &s[0..len] } else { s }
 }
 
 fn order(o: Ordering) {

@@ -3,34 +3,62 @@
 ghost use Prim.Native.Nat.{_<_};
 ghost use lib.ListN.{length};
 
+mod blocks;
 mod fields;
 mod filters;
 mod keyed;
 mod show;
 
-// Answers the line at a place, and says where the next one starts.
-fn line(s: &[u8], at: usize) -> usize
+// Where the next line starts, and how long the loaded block is.
+struct Answered {
+    next: usize,
+    len: usize,
+}
+
+// Answers a command, and says how long the loaded block then is.
+fn answer(s: &[u8], from: usize, end: usize, op: u8, block: &mut [u8], len: usize) -> usize {
+    if keyed::knows(op) {
+        keyed::answer(s, from, op);
+        return len;
+    }
+    if filters::knows(op) {
+        filters::answer(s, from, end, op);
+        return len;
+    }
+    blocks::answer(s, from, end, op, block, len)
+}
+
+// Answers the line at a place.
+fn line(s: &[u8], at: usize, block: &mut [u8], len: usize) -> Answered
     requires { ⌜ at < length (now s) ⌝ }
-    ensures { λ r. ⌜ at < r ⌝ }
+    ensures { λ r. ⌜ at < r .next ⌝ }
 {
     let op = s[at];
     let end = fields::line_end(s, at);
     show::letter(op);
     let from = fields::after(at);
-    if keyed::knows(op) {
-        keyed::answer(s, from, op);
-    } else {
-        filters::answer(s, from, end, op);
-    }
+    let loaded = answer(s, from, end, op, block, len);
     show::say(b"\n");
-    end
+    Answered {
+        next: end,
+        len: loaded,
+    }
+}
+
+// Answers line after line.
+fn lines(s: &[u8], block: &mut [u8]) {
+    let mut len: usize = 0;
+    let mut at: usize = 0;
+    while at < s.len() {
+        let r = line(s, at, block, len);
+        at = r.next;
+        len = r.len;
+    }
 }
 
 fn main() {
-    let mut input = [0u8; 262144];
+    let mut input = [0u8; 393216];
+    let mut block = [0u8; 65536];
     let n = io::read_full(0, &mut input);
-    let mut at: usize = 0;
-    while at < n {
-        at = line(&input[0..n], at);
-    }
+    lines(&input[0..n], &mut block);
 }

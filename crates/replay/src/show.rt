@@ -6,6 +6,15 @@ pub fn say(s: &[u8]) {
     io::write_all(STDOUT_FILENO, s);
 }
 
+// One answer or the other.
+pub fn yes(b: bool, other: &[u8], one: &[u8]) {
+    if b {
+        say(one);
+    } else {
+        say(other);
+    }
+}
+
 pub fn letter(b: u8) {
     let one = [b];
     say(&one);
@@ -125,4 +134,14 @@ pub fn kept(run: &[u8]) {
     if untouched(run) {} else {
         say(b" changed");
     }
+}
+
+// A key at the front of a run of 1,032 that was full of ee: the rest has to be as it was.
+pub fn key(run: &[u8], len: usize) {
+    if run.len() < len {
+        say(b"outside");
+        return;
+    }
+    shown(&run[0..len]);
+    kept(&run[len..]);
 }

@@ -15,14 +15,8 @@ letter-requires c κs = search needs
 after-requires : tie.Need-after-requires
 after-requires c κs = search needs
 
-knows-requires : tie.Need-knows-requires
-knows-requires c κs = search needs
-
 answer-requires : tie.Need-answer-requires
 answer-requires c κs = search needs
-
-answer-requires-2 : tie.Need-answer-requires-2
-answer-requires-2 c κs = search needs
 
 slice-aggregate-say : tie.Need-slice-aggregate-say
 slice-aggregate-say c = search needs
@@ -30,8 +24,11 @@ slice-aggregate-say c = search needs
 say-requires : tie.Need-say-requires
 say-requires c κs = search needs
 
+same-length : tie.Need-same-length
+same-length c = search needs
+
 returns : tie.Need-returns
-returns c = c .before .before .before .before .before .before .line-end .ensures (c .before .before .before .before .before .before .before .before .before .pre)
+returns c = c .before .before .before .before .before .before .before .before .line-end .ensures (c .before .before .before .before .before .before .before .before .before .before .before .before .pre)
 
 pub line-spec : {M : Type 1} → statement M
 line-spec =
@@ -41,9 +38,8 @@ line-spec =
     line-end-requires
     letter-requires
     after-requires
-    knows-requires
     answer-requires
-    answer-requires-2
     slice-aggregate-say
     say-requires
+    same-length
     returns)
