@@ -14,7 +14,8 @@ use Rattle.codec.specs.Answers.{oneHandleAnswer}
 use Rattle.codec.specs.Bytes.{numbers, sameBytes}
 use Rattle.codec.specs.Maybe.{_>>=_, ask}
 use Rattle.codec.specs.Varint.{Handle, oneHandle}
-use Rattle.codec.proofs.BytesLaws.{part-between, same-same, same-bytes}
+use Rattle.codec.proofs.BytesLaws.{same-same, same-bytes}
+use Rattle.codec.proofs.VarintCode.{no-one, a-one}
 use Rattle.codec.proofs.Prelude.{test, split, true-is}
 use Rattle.keys.specs.declared.cmp.Ordering.the-variants as OrderCase
 use Rattle.keys.specs.Answers.{orderAnswer}
@@ -29,29 +30,22 @@ use Rattle.block.specs.Block.{Pair, Entry, entry, next, entriesF, pairsO
 use Rattle.block.specs.Formed.{Kind, bloomName, dataBlock, indexBlock, metaBlock, within, isHandle, entryFits, all, enough, wellFormed, isFormed}
 use Rattle.block.specs.Steps.{rowsOf, rowsAnswer, Laid, restartAt, entriesFrom, marks, filledFrom, Onward}
 use Rattle.block.specs.Search.{kindOf, entryAnswer}
-use Rattle.block.proofs.ReadLaws.{entry-start, entry-value}
+use Rattle.block.proofs.ReadLaws.{entry-start}
 use Rattle.block.proofs.EntryLaws.{no-step, Taken}
 use Rattle.block.proofs.FormedLaws.{asPair}
+use Rattle.block.proofs.RestLaws.{value-lent}
 use Rattle.block.proofs.LayoutLaws.{restarts-from, numbers-length, no-block, block-is, entries-size}
 use Rattle.block.proofs.WalkLaws.{from-end, from-none, from-some}
 
 -- ---- a value that is a handle
 
 pub not-handle : (s : List ℕ) → oneHandleAnswer (oneHandle s) ≡ OneCase.Bad → false ≡ isHandle s
-unfolding isHandle oneHandleAnswer
-not-handle s = go (oneHandle s)
-  where
-    go : (o : Option Handle) → oneHandleAnswer o ≡ OneCase.Bad → false ≡ elim o as (λ (_ : Option Handle). Bool) [ none ↦ false | some h ↦ true ]
-    go none e = refl
-    go (some h) e = cc
+unfolding isHandle
+not-handle s e = rw (no-one s e, isHandle)
 
 pub one-handle-is : (s : List ℕ) {a b : ℕ} → oneHandleAnswer (oneHandle s) ≡ OneCase.Handle a b → true ≡ isHandle s
-unfolding isHandle oneHandleAnswer
-one-handle-is s {a} {b} = go (oneHandle s)
-  where
-    go : (o : Option Handle) → oneHandleAnswer o ≡ OneCase.Handle a b → true ≡ elim o as (λ (_ : Option Handle). Bool) [ none ↦ false | some h ↦ true ]
-    go none e = cc
-    go (some h) e = refl
+unfolding isHandle
+one-handle-is s e = rw (a-one s e, isHandle)
 
 -- ---- a key that is a name, by comparing the two
 
@@ -198,7 +192,7 @@ within-over : (low n : ℕ) → 1032 < n → within low 1032 n ≡ false
 unfolding within
 within-over low n h = rw (lt-leb n 1032 h) (and-false (leb low n))
 
-pub long-wrong : (kind : Kind) (p : Pair) → 1032 < length (p .key) → entryFits kind p ≡ false
+long-wrong : (kind : Kind) (p : Pair) → 1032 < length (p .key) → entryFits kind p ≡ false
 unfolding entryFits
 long-wrong dataBlock p h = rw (within-over 9 (length (p .key)) h)
 long-wrong indexBlock p h = rw (within-over 9 (length (p .key)) h)
@@ -231,17 +225,12 @@ module _ (kind : Kind) {d : List ℕ} {at : ℕ} {k : List ℕ} {m : ℕ} {k′ 
   inside : at < length d
   inside = omega (arith, t .step)
 
-  value-is : take (a + v - a) (drop a d) ≡ e .value
-  value-is =
-      let w = entry-value at (take m k) d (omega (arith, inside)) (t .step .reads) in
-      part-between d a v ∙ sym (w .is ∙ rw (t .step .valueAt, t .step .valueSize))
-
   -- the pair as the code lends it
   abbrev lent : Pair
   lent = record { key = take n k′; value = take (a + v - a) (drop a d) }
 
   fits-is : entryFits kind lent ≡ entryFits kind (asPair e)
-  fits-is = rw (t .key, value-is)
+  fits-is = rw (t .key, value-lent t)
 
   pub pass-wrong : (qs : List ℕ) → entryFits kind lent ≡ false → filledFrom kind d at (take m k) qs ≡ false
   pass-wrong qs f = filled-wrong kind d at (take m k) inside (t .step .reads) qs (sym fits-is ∙ f)

@@ -1,17 +1,19 @@
 -- A well-formed block: what it says of its entries, and when it is one.
 use Prim.Native.Nat.{ℕ}
-use mathlib.Core.Path.{_≡_, refl}
+use mathlib.Core.Path.{_≡_, refl, ap}
 use mathlib.Core.List.{List, [], _∷_, _++_}
-use mathlib.Core.Bool.{Bool, true}
+use mathlib.Core.Bool.{Bool, true, _&&_}
 use mathlib.Core.Option.{some, Option·some-inj}
-use lib.Dec.{T}
+use lib.Dec.{T, leb}
+use lib.ListN.{length}
 use Rattle.codec.proofs.Lists.{All, Pairs, all-imp}
-use Rattle.codec.proofs.Prelude.{both, true-is, and-l, and-r}
+use Rattle.codec.proofs.Prelude.{both, true-is, and-l, and-r, and-i}
 use Rattle.codec.proofs.MaybeLaws.{getting, giving, gets, gives}
 use Rattle.keys.specs.Order.{pointOf, below}
 use Rattle.keys.proofs.OrderLaws.{_≺_, ≺-trans}
 use Rattle.block.specs.Block.{Pair, lastKeyOf, Entry, pairsOf, Block, block}
-use Rattle.block.specs.Formed.{Kind, entryFits, all, enough, wellFormed, rises}
+use Rattle.block.specs.Formed.{Kind, dataBlock, indexBlock, metaBlock, within, entryFits, all, enough, wellFormed, rises}
+use Rattle.block.specs.Search.{readable}
 use Rattle.block.proofs.ReadLaws.{EntryBefore}
 
 -- the key and the value of an entry
@@ -38,6 +40,25 @@ pub formed-some : (kind : Kind) (s : List ℕ) (b : Block) → block s ≡ some 
     → all (entryFits kind) (pairsOf (b .entries)) ≡ true → wellFormed kind s ≡ some (b .entries)
 unfolding wellFormed
 formed-some kind s b e h f = gets _ _ e (gives _ _ (true-is h) (gives _ _ (true-is f) refl))
+
+-- ---- it can be read: its keys have at most 1,032 bytes
+
+fit-short : (kind : Kind) (p : Pair) → T (entryFits kind p) → T (leb (length (p .key)) 1032)
+unfolding entryFits within
+fit-short dataBlock p t = and-r (leb 9 (length (p .key))) (leb (length (p .key)) 1032) (and-l (leb 9 (length (p .key)) && leb (length (p .key)) 1032) _ t)
+fit-short indexBlock p t = and-r (leb 9 (length (p .key))) (leb (length (p .key)) 1032) (and-l (leb 9 (length (p .key)) && leb (length (p .key)) 1032) _ t)
+fit-short metaBlock p t = and-r (leb 1 (length (p .key))) (leb (length (p .key)) 1032) (and-l (leb 1 (length (p .key)) && leb (length (p .key)) 1032) _ t)
+
+all-short : (kind : Kind) (ps : List Pair) → T (all (entryFits kind) ps) → T (all (λ (p : Pair). leb (length (p .key)) 1032) ps)
+unfolding all
+all-short kind [] t = tt
+all-short kind (p ∷ ps) t = and-i (leb (length (p .key)) 1032) _ (fit-short kind p (and-l (entryFits kind p) _ t)) (all-short kind ps (and-r (entryFits kind p) _ t))
+
+pub formed-readable : (kind : Kind) (s : List ℕ) {es : List Entry} → wellFormed kind s ≡ some es → readable s ≡ some es
+unfolding readable
+formed-readable kind s {es} p =
+    let r = formed-read kind s p in
+    gets _ _ (r .reads) (gives _ _ (rw (r .entries) (all-short kind (pairsOf es) (r .fits))) (ap some (r .entries)))
 
 -- ---- the tests, one entry more at a time
 

@@ -50,25 +50,34 @@ module _ (k key : List ℕ) (start at v : ℕ) where
 module _ (d : List ℕ) (at : ℕ) (before : List ℕ) (says : List Entry → Option (Option Entry)) (k : List ℕ) where
   -- what is read can not be read
   pub told-bad : ((es : List Entry) → readFrom d at before ≡ some es → ⊥) → Told d at before says k FoundCase.Bad k
-  told-bad h = record { answer = λ es r b. absurd (h es r); buffer = λ es r b. absurd (h es r); inside = refl }
+  told-bad h = record { answer = λ es r. absurd (h es r); buffer = λ es r. absurd (h es r); inside = refl }
 
   pub told-none : ((es : List Entry) → readFrom d at before ≡ some es → says es ≡ some none) → Told d at before says k FoundCase.None k
   unfolding foundAnswer bufferLeft keyLeft
-  told-none h = record { answer = λ es r b. rw (h es r); buffer = λ es r b. rw (h es r); inside = refl }
+  told-none h = record { answer = λ es r. rw (h es r); buffer = λ es r. rw (h es r); inside = refl }
 
   pub told-no-place : ((es : List Entry) → readFrom d at before ≡ some es → says es ≡ none) → Told d at before says k FoundCase.NoPlace k
   unfolding foundAnswer bufferLeft
-  told-no-place h = record { answer = λ es r b. rw (h es r); buffer = λ es r b. rw (h es r); inside = refl }
+  told-no-place h = record { answer = λ es r. rw (h es r); buffer = λ es r. rw (h es r); inside = refl }
 
   -- an entry, whose key is handed over
+  hand-found : (e : Entry) {key : List ℕ} {start a v : ℕ} → e .start ≡ start → e .key ≡ key → e .valueAt ≡ a → length (e .value) ≡ v → handAnswer k key start a v ≡ foundAnswer (length k) (some (some e))
+  unfolding foundAnswer
+  hand-found e {key} {start} {a} {v} p q s t =
+      split (length k) (length key)
+      (λ full. hand-full k key start a v full ∙ sym (rw (q, lt-leb (length key) (length k) full, foundAnswer)))
+      (λ room.
+      let same : FoundCase.Entry start (length key) a v ≡ FoundCase.Entry (e .start) (length (e .key)) (e .valueAt) (length (e .value)) = cc in
+      hand-room k key start a v room ∙ same ∙ sym (rw (le-leb (length (e .key)) (length k) (rw q room), foundAnswer)))
+
   pub told-entry : (e : Entry) {key : List ℕ} {start a v : ℕ} {r : Found} {k′ : List ℕ}
       → e .start ≡ start → e .key ≡ key → e .valueAt ≡ a → length (e .value) ≡ v → a + v ≤ length d → length key ≤ 1032
       → ((es : List Entry) → readFrom d at before ≡ some es → says es ≡ some (some e)) → Handed k key start a v r k′ → Told d at before says k r k′
   unfolding foundAnswer bufferLeft keyLeft
   told-entry e {key} {start} {a} {v} {r} {k′} p q s t within short h w =
       record {
-        answer = λ es read big. w .said ∙ hand-room k key start a v (omega arith) ∙ sym (rw (h es read) (cc));
-        buffer = λ es read big. rw (h es read, q) (w .left);
+        answer = λ es read. w .said ∙ hand-found e p q s t ∙ ap (foundAnswer (length k)) (sym (h es read));
+        buffer = λ es read. rw (h es read, q) (w .left);
         inside =
             split (length k) (length key)
             (λ full. rw (w .said, hand-full k key start a v full) (w .left ∙ put-full k 0 key (omega arith)))
@@ -87,7 +96,7 @@ pub said-from : (s d : List ℕ) (says : List Entry → Option (Option Entry)) (
     → length d ≤ length s → From s d says ordered at → Told d at [] says k r k′ → Said s says ordered k r k′
 said-from s d says ordered at k {r} {k′} h f t =
     record {
-      answer = λ es read order big. let g = f .skips es read order in t .answer (g .rest) (g .reads) big ∙ ap foundAnswer (sym (g .same));
-      buffer = λ es read order big. let g = f .skips es read order in t .buffer (g .rest) (g .reads) big ∙ ap (bufferLeft k) (sym (g .same));
+      answer = λ es read order. let g = f .skips es read order in t .answer (g .rest) (g .reads) ∙ ap (foundAnswer (length k)) (sym (g .same));
+      buffer = λ es read order. let g = f .skips es read order in t .buffer (g .rest) (g .reads) ∙ ap (bufferLeft k) (sym (g .same));
       inside = inside-more s d k r k′ h (t .inside);
     }

@@ -10,3 +10,4 @@ pub mod WalkLaws
 pub mod FilledLaws
 pub mod FoundLaws
 pub mod SeekLaws
+pub mod RestLaws

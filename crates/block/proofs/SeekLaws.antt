@@ -18,9 +18,10 @@ use Rattle.keys.proofs.OrderLaws.{_≺_}
 use Rattle.block.specs.declared.block.Found.{Found}
 use Rattle.block.specs.declared.block.Found.the-variants as FoundCase
 use Rattle.block.specs.declared.block.RowsRead.the-variants as RowsCase
+use Rattle.block.specs.declared.block.Which.{Which}
 use Rattle.block.specs.Block.{Pair, Entry, pairsOf, restartsStand, firstIsZero, Block}
 use Rattle.block.specs.Formed.{all}
-use Rattle.block.specs.Search.{readable, reaches, seekIn, firstIn, nextIn, foundAnswer, bufferLeft, inOrder, anyOrder, Said}
+use Rattle.block.specs.Search.{readable, reaches, seekIn, firstIn, pick, placeIn, nextIn, atIn, foundAnswer, bufferLeft, inOrder, anyOrder, Said}
 use Rattle.block.specs.Steps.{rowsOf, rowsAnswer, Laid, restartAt, entriesFrom, readFrom, Told, From, BelowAt}
 use Rattle.block.proofs.ReadLaws.{entry-start, entry-ends, Reads, reads-of, reads-back, reads-count, StartsBefore, starts-rise, restart-reads, skip-entries}
 use Rattle.block.proofs.FormedLaws.{rises-pairs}
@@ -31,12 +32,16 @@ use Rattle.block.proofs.WalkLaws.{read-next, taken-first}
 -- ---- a search, entry by entry
 
 pub next-here : (at : ℕ) (e : Entry) (es : List Entry) → e .start ≡ at → nextIn at (e ∷ es) ≡ firstIn es
-unfolding nextIn firstIn
-next-here at e es h = rw (eq-eqb (e .start) at h, nextIn)
+unfolding placeIn pick firstIn
+next-here at e es h = rw (eq-eqb (e .start) at h, placeIn)
 
-pub next-past : (at : ℕ) (e : Entry) (es : List Entry) → (e .start ≡ at → ⊥) → nextIn at (e ∷ es) ≡ nextIn at es
-unfolding nextIn
-next-past at e es h = rw (ne-eqb (e .start) at h, nextIn)
+pub at-here : (at : ℕ) (e : Entry) (es : List Entry) → e .start ≡ at → atIn at (e ∷ es) ≡ firstIn (e ∷ es)
+unfolding placeIn pick firstIn
+at-here at e es h = rw (eq-eqb (e .start) at h, placeIn)
+
+pub place-past : (which : Which) (at : ℕ) (e : Entry) (es : List Entry) → (e .start ≡ at → ⊥) → placeIn which at (e ∷ es) ≡ placeIn which at es
+unfolding placeIn
+place-past which at e es h = rw (ne-eqb (e .start) at h, placeIn)
 
 pub seek-here : (p : Point) (e : Entry) (es : List Entry) → isLess (byPoint (pointOf (e .key)) p) ≡ false → seekIn p (e ∷ es) ≡ some (some e)
 unfolding seekIn reaches
@@ -78,7 +83,7 @@ readable-read s {end} {count} l {es} p =
 -- without a layout nothing can be read
 pub said-bad : (s : List ℕ) (says : List Entry → Option (Option Entry)) (ordered : List Entry → Bool) (k : List ℕ) → rowsAnswer (rowsOf s) ≡ RowsCase.Bad → Said s says ordered k FoundCase.Bad k
 unfolding readable
-said-bad s says ordered k e = record { answer = λ es read o b. absurd (never read); buffer = λ es read o b. absurd (never read); inside = refl }
+said-bad s says ordered k e = record { answer = λ es read o. absurd (never read); buffer = λ es read o. absurd (never read); inside = refl }
   where
     never : {es : List Entry} → readable s ≡ some es → ⊥
     never read = getting _ _ read λ b whole p. Option·none-ne-some b (sym (no-block s e) ∙ whole)
@@ -97,16 +102,16 @@ reads-read {d} {r} {before} p =
     subst (Reads d r before) (Option·some-inj .0 p) (reads-of (suc (length d)) d r before es read)
 
 -- no entry from a place on starts at another
-next-none : {d : List ℕ} {p : ℕ} {before : List ℕ} {es : List Entry} (at : ℕ) → Reads d p before es → p ≤ length d → ((x : ℕ) → p ≤ x → x < length d → x ≡ at → ⊥) → nextIn at es ≡ none
-unfolding nextIn
-next-none at (Reads.done e) w h = refl
-next-none {d} {p} {before} at (Reads.more {e = e} {es = es} n read r) w h =
+place-none : {d : List ℕ} {p : ℕ} {before : List ℕ} {es : List Entry} (which : Which) (at : ℕ) → Reads d p before es → p ≤ length d → ((x : ℕ) → p ≤ x → x < length d → x ≡ at → ⊥) → placeIn which at es ≡ none
+unfolding placeIn
+place-none which at (Reads.done e) w h = refl
+place-none {d} {p} {before} which at (Reads.more {e = e} {es = es} n read r) w h =
     let here = entry-start p before (drop p d) read in
     let ends = entry-ends p before d w read in
-    next-past at e es (λ g. h p (omega arith) (omega arith) (sym here ∙ g)) ∙ next-none at r (ends .1) (λ x a b. h x (omega arith) b)
+    place-past which at e es (λ g. h p (omega arith) (omega arith) (sym here ∙ g)) ∙ place-none which at r (ends .1) (λ x a b. h x (omega arith) b)
 
-pub no-place : (d : List ℕ) (p : ℕ) (before : List ℕ) (at : ℕ) → p ≤ length d → at < p → (es : List Entry) → readFrom d p before ≡ some es → nextIn at es ≡ none
-no-place d p before at w h es read = next-none at (reads-read read) w (λ x a b e. omega arith)
+pub no-place : (d : List ℕ) (p : ℕ) (before : List ℕ) (which : Which) (at : ℕ) → p ≤ length d → at < p → (es : List Entry) → readFrom d p before ≡ some es → placeIn which at es ≡ none
+no-place d p before which at w h es read = place-none which at (reads-read read) w (λ x a b e. omega arith)
 
 -- ---- a search from a restart
 
@@ -135,11 +140,15 @@ module _ (s : List ℕ) {end count : ℕ} (l : Laid s end count) where
   abbrev d : List ℕ
   d = take end s
 
+  -- the entries of a block that can be read, from the first on
+  pub read-whole : {es : List Entry} → readable s ≡ some es → readFrom d 0 [] ≡ some es
+  read-whole read = let w = readable-read s l read in read-from (omega arith) (w .reads) (w .fits)
+
   pub from-start : (says : List Entry → Option (Option Entry)) (ordered : List Entry → Bool) → From s d says ordered 0
   from-start says ordered =
       record {
         within = omega arith;
-        skips = λ es read o. let w = readable-read s l read in record { rest = es; reads = read-from (omega arith) (w .reads) (w .fits); same = refl };
+        skips = λ es read o. record { rest = es; reads = read-whole read; same = refl };
       }
 
   module _ (j : ℕ) (later : 1 ≤ j) (is : j < count) {r : ℕ} (restart : r ≡ restartAt s end j) (within : r ≤ length d) where
@@ -158,21 +167,21 @@ module _ (s : List ℕ) {end count : ℕ} (l : Laid s end count) where
         }
 
     -- not above a place: no entry before it starts there
-    pub from-before : (at : ℕ) → r ≤ at → From s d (nextIn at) anyOrder r
-    from-before at h =
+    pub from-before : (which : Which) (at : ℕ) → r ≤ at → From s d (placeIn which at) anyOrder r
+    from-before which at h =
         record {
           within = within;
           skips = λ es read o.
               let w = readable-read s l read in
               let x = suffix w in
-              record { rest = x .here ∷ x .after; reads = x .reads; same = ap (nextIn at) (x .whole) ∙ skip at (x .before) (x .here) (x .after) (omega (arith, x .start)) (rw (x .whole) at (starts-rise (omega arith) (w .reads))) };
+              record { rest = x .here ∷ x .after; reads = x .reads; same = ap (placeIn which at) (x .whole) ∙ skip at (x .before) (x .here) (x .after) (omega (arith, x .start)) (rw (x .whole) at (starts-rise (omega arith) (w .reads))) };
         }
       where
-        skip : (at : ℕ) (bs : List Entry) (e : Entry) (cs : List Entry) → e .start ≤ at → Pairs StartsBefore (bs ++ (e ∷ cs)) → nextIn at (bs ++ (e ∷ cs)) ≡ nextIn at (e ∷ cs)
+        skip : (at : ℕ) (bs : List Entry) (e : Entry) (cs : List Entry) → e .start ≤ at → Pairs StartsBefore (bs ++ (e ∷ cs)) → placeIn which at (bs ++ (e ∷ cs)) ≡ placeIn which at (e ∷ cs)
         skip at [] e cs h p = refl
         skip at (b ∷ bs) e cs h (Pairs.cons q qs) =
             let before : b .start < e .start = all-mem q (Memᴰ·append-right bs (List·Memᴰ·head refl)) in
-            next-past at b (bs ++ (e ∷ cs)) (λ g. omega arith) ∙ skip at bs e cs h qs
+            place-past which at b (bs ++ (e ∷ cs)) (λ g. omega arith) ∙ skip at bs e cs h qs
 
   -- below a target: so are all entries before it
   pub from-below : (j : ℕ) → 1 ≤ j → j < count → (p : Point) {r : ℕ} → BelowAt s d end j p r → From s d (seekIn p) inOrder r
@@ -196,11 +205,11 @@ module _ (s : List ℕ) {end count : ℕ} (l : Laid s end count) where
       head-is e = cc
 
   -- past the end there is no place
-  pub no-place-end : (at : ℕ) (k : List ℕ) → end ≤ at → Said s (nextIn at) anyOrder k FoundCase.NoPlace k
+  pub no-place-end : (which : Which) (at : ℕ) (k : List ℕ) → end ≤ at → Said s (placeIn which at) anyOrder k FoundCase.NoPlace k
   unfolding foundAnswer bufferLeft
-  no-place-end at k h =
-      let none-there : (es : List Entry) → readable s ≡ some es → nextIn at es ≡ none = λ es read. next-none at (readable-read s l read .reads) (omega arith) (λ x a b e. omega (arith, entries-size s l)) in
-      record { answer = λ es read o b. rw (none-there es read); buffer = λ es read o b. rw (none-there es read); inside = refl }
+  no-place-end which at k h =
+      let none-there : (es : List Entry) → readable s ≡ some es → placeIn which at es ≡ none = λ es read. place-none which at (readable-read s l read .reads) (omega arith) (λ x a b e. omega (arith, entries-size s l)) in
+      record { answer = λ es read o. rw (none-there es read); buffer = λ es read o. rw (none-there es read); inside = refl }
 
 -- ---- the entry after one that was taken
 
@@ -208,10 +217,24 @@ pub told-next : {d : List ℕ} {at : ℕ} {k : List ℕ} {m : ℕ} {k′ : List 
     → Told d (a + v) (take n k′) firstIn key r key′ → Told d at (take m k) (nextIn at) key r key′
 told-next {d} {at} {k} {m} t {key} w =
     record {
-      answer = λ es read big. let f = taken-first t es read in w .answer (f .rest) (f .onward) big ∙ ap foundAnswer (sym (says es read));
-      buffer = λ es read big. let f = taken-first t es read in w .buffer (f .rest) (f .onward) big ∙ ap (bufferLeft key) (sym (says es read));
+      answer = λ es read. let f = taken-first t es read in w .answer (f .rest) (f .onward) ∙ ap (foundAnswer (length key)) (sym (says es read));
+      buffer = λ es read. let f = taken-first t es read in w .buffer (f .rest) (f .onward) ∙ ap (bufferLeft key) (sym (says es read));
       inside = w .inside;
     }
   where
     says : (es : List Entry) (read : readFrom d at (take m k) ≡ some es) → nextIn at es ≡ firstIn (taken-first t es read .rest)
     says es read = let f = taken-first t es read in ap (nextIn at) (f .is) ∙ next-here at (t .step .here) (f .rest) (entry-start at (take m k) (drop at d) (t .step .reads))
+
+-- the entry at the place itself
+pub told-here : (d : List ℕ) (at : ℕ) (before : List ℕ) {key : List ℕ} {r : Found} {key′ : List ℕ} → at < length d → Told d at before firstIn key r key′ → Told d at before (atIn at) key r key′
+told-here d at before {key} inside w =
+    record {
+      answer = λ es read. w .answer es read ∙ ap (foundAnswer (length key)) (sym (says es read));
+      buffer = λ es read. w .buffer es read ∙ ap (bufferLeft key) (sym (says es read));
+      inside = w .inside;
+    }
+  where
+    says : (es : List Entry) → readFrom d at before ≡ some es → atIn at es ≡ firstIn es
+    says es read =
+        let x = read-next d at before read inside in
+        ap (atIn at) (x .is) ∙ at-here at (x .here) (x .rest) (entry-start at before (drop at d) (x .reads)) ∙ ap firstIn (sym (x .is))

@@ -87,20 +87,24 @@ module _ (d : List ℕ) (at : ℕ) (before : List ℕ) {es : List Entry} (read :
 
 -- ---- a loop over the entries from a place on
 
--- what is left of a reading: the same is said of it
-pub record Left (d : List ℕ) (says : List Entry → Option (Option Entry)) (es : List Entry) (p : ℕ) (before : List ℕ) : Type 0 where
+-- what is left of a reading, and what holds of it
+pub record Left (d : List ℕ) (P : List Entry → Type 0) (p : ℕ) (before : List ℕ) : Type 0 where
   pub rest : List Entry
   pub reads : readFrom d p before ≡ some rest
-  pub same : says es ≡ says rest
+  pub same : P rest
 
--- between two turns: the key before p is the first m bytes of the buffer k
-pub record Scanning (d : List ℕ) (from : ℕ) (says : List Entry → Option (Option Entry)) (k : List ℕ) (m p : ℕ) : Type 0 where
+-- between two turns: the key before p is the first m bytes of the buffer k, and P holds of all entries and those that are left
+pub record Scanning (d : List ℕ) (from : ℕ) (P : List Entry → List Entry → Type 0) (k : List ℕ) (m p : ℕ) : Type 0 where
   pub room : length k ≡ 1032
   pub within : p ≤ length d
-  pub left : (es : List Entry) → readFrom d from [] ≡ some es → Left d says es p (take m k)
+  pub left : (es : List Entry) → readFrom d from [] ≡ some es → Left d (P es) p (take m k)
 
-pub scan-start : (d : List ℕ) (from : ℕ) (says : List Entry → Option (Option Entry)) (k : List ℕ) → length k ≡ 1032 → from ≤ length d → Scanning d from says k 0 from
-scan-start d from says k r w = record { room = r; within = w; left = λ es read. record { rest = es; reads = read; same = refl } }
+-- the same is said of those that are left as of all
+abbrev pub Same : {R : Type 0} → (List Entry → R) → List Entry → List Entry → Type 0
+Same says es rest = says es ≡ says rest
+
+pub scan-start : (d : List ℕ) (from : ℕ) (P : List Entry → List Entry → Type 0) (k : List ℕ) → length k ≡ 1032 → from ≤ length d → ((es : List Entry) → P es es) → Scanning d from P k 0 from
+scan-start d from P k r w h = record { room = r; within = w; left = λ es read. record { rest = es; reads = read; same = h es } }
 
 -- no entry, or one with a longer key, can be read there
 pub no-read : (d : List ℕ) (p : ℕ) (before : List ℕ) {n : ℕ} → p < length d → n ≡ 1032 → entryAnswer n (entry p before (drop p d)) ≡ EntryCase.Bad → (es : List Entry) → readFrom d p before ≡ some es → ⊥
@@ -122,37 +126,38 @@ taken-first {d} {p} {k} {m} {k′} {n = n} {a = a} {v = v} t es read = go (read-
         let e : x .here ≡ t .step .here = Option·some-inj .0 (sym (x .reads) ∙ t .step .reads) in
         record { rest = x .rest; is = x .is ∙ ap (λ (h : Entry). h ∷ x .rest) e; onward = rw (← t .step .ends, t .key) (rw e at (x .onward)) }
 
-module _ {d : List ℕ} {from : ℕ} {says : List Entry → Option (Option Entry)} {k : List ℕ} {m p : ℕ} (w : Scanning d from says k m p) where
+module _ {d : List ℕ} {from : ℕ} {P : List Entry → List Entry → Type 0} {k : List ℕ} {m p : ℕ} (w : Scanning d from P k m p) where
   pub scan-bad : {n : ℕ} → p < length d → n ≡ length k → entryAnswer n (entry p (take m k) (drop p d)) ≡ EntryCase.Bad → (es : List Entry) → readFrom d from [] ≡ some es → ⊥
   scan-bad inside r bad es read = let l = w .left es read in no-read d p (take m k) inside (r ∙ w .room) bad (l .rest) (l .reads)
 
-  pub scan-end : length d ≤ p → (es : List Entry) → readFrom d from [] ≡ some es → says es ≡ says []
+  pub scan-end : length d ≤ p → (es : List Entry) → readFrom d from [] ≡ some es → P es []
   scan-end h es read =
       let l = w .left es read in
-      l .same ∙ ap says (read-end d p (take m k) (l .reads) (omega (arith, w .within)))
-
-  pub scan-told : {key : List ℕ} {r : Found} {key′ : List ℕ} → Told d p (take m k) says key r key′ → Told d from [] says key r key′
-  scan-told t =
-      record {
-        answer = λ es read big. let l = w .left es read in t .answer (l .rest) (l .reads) big ∙ ap foundAnswer (sym (l .same));
-        buffer = λ es read big. let l = w .left es read in t .buffer (l .rest) (l .reads) big ∙ ap (bufferLeft _) (sym (l .same));
-        inside = t .inside;
-      }
+      rw (read-end d p (take m k) (l .reads) (omega (arith, w .within))) at (l .same)
 
   module _ {k′ : List ℕ} {sh n a v : ℕ} (t : Taken d p k m k′ sh n a v) where
-    pub scan-more : ((rest : List Entry) → says (t .step .here ∷ rest) ≡ says rest) → Scanning d from says k′ n (a + v)
-    scan-more skip =
+    pub scan-more : (Q : List Entry → List Entry → Type 0) → ((es rest : List Entry) → P es (t .step .here ∷ rest) → Q es rest) → Scanning d from Q k′ n (a + v)
+    scan-more Q step =
         record {
           room = t .room;
           within = t .step .within;
           left = λ es read.
               let l = w .left es read in
               let f = taken-first t (l .rest) (l .reads) in
-              record { rest = f .rest; reads = f .onward; same = l .same ∙ ap says (f .is) ∙ skip (f .rest) };
+              record { rest = f .rest; reads = f .onward; same = step es (f .rest) (rw (f .is) at (l .same)) };
         }
 
-    pub scan-hit : ((rest : List Entry) → says (t .step .here ∷ rest) ≡ some (some (t .step .here))) → (es : List Entry) → readFrom d from [] ≡ some es → says es ≡ some (some (t .step .here))
-    scan-hit hit es read =
+    pub scan-hit : (X : List Entry → Type 0) → ((es rest : List Entry) → P es (t .step .here ∷ rest) → X es) → (es : List Entry) → readFrom d from [] ≡ some es → X es
+    scan-hit X hit es read =
         let l = w .left es read in
         let f = taken-first t (l .rest) (l .reads) in
-        l .same ∙ ap says (f .is) ∙ hit (f .rest)
+        hit es (f .rest) (rw (f .is) at (l .same))
+
+pub scan-told : {d : List ℕ} {from : ℕ} {says : List Entry → Option (Option Entry)} {k : List ℕ} {m p : ℕ} (w : Scanning d from (Same says) k m p)
+    {key : List ℕ} {r : Found} {key′ : List ℕ} → Told d p (take m k) says key r key′ → Told d from [] says key r key′
+scan-told w t =
+    record {
+      answer = λ es read. let l = w .left es read in t .answer (l .rest) (l .reads) ∙ ap (foundAnswer _) (sym (l .same));
+      buffer = λ es read. let l = w .left es read in t .buffer (l .rest) (l .reads) ∙ ap (bufferLeft _) (sym (l .same));
+      inside = t .inside;
+    }

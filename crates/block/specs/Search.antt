@@ -13,6 +13,8 @@ use Rattle.block.specs.declared.block.EntryRead.{EntryRead}
 use Rattle.block.specs.declared.block.EntryRead.the-variants as EntryCase
 use Rattle.block.specs.declared.block.Found.{Found}
 use Rattle.block.specs.declared.block.Found.the-variants as FoundCase
+use Rattle.block.specs.declared.block.Which.{Which}
+use Rattle.block.specs.declared.block.Which.the-variants as WhichCase
 use Rattle.block.specs.declared.block.Kind as KindEnum
 use Rattle.block.specs.declared.block.Kind.the-variants as KindCase
 use Rattle.block.specs.Block.{Pair, Entry, pairsOf, block}
@@ -59,16 +61,30 @@ seekIn p es = some (first (reaches p) es)
 unfoldable pub firstIn : List Entry → Option (Option Entry)
 firstIn es = some (head? es)
 
--- what comes after the entry at a place; nothing where no entry starts there
-unfoldable pub nextIn : ℕ → List Entry → Option (Option Entry)
-nextIn at [] = none
-nextIn at (e ∷ es) = elim (eqb (e .start) at) [ true ↦ some (head? es) | false ↦ nextIn at es ]
+-- the entry at a place, or what comes after it
+unfoldable pub pick : Which → Entry → List Entry → Option Entry
+pick WhichCase.Here e es = some e
+pick WhichCase.After e es = head? es
 
--- the answer: an entry, none, or that no entry starts at the place
-unfoldable pub foundAnswer : Option (Option Entry) → Found
-foundAnswer none = FoundCase.NoPlace
-foundAnswer (some none) = FoundCase.None
-foundAnswer (some (some e)) = FoundCase.Entry (e .start) (length (e .key)) (e .valueAt) (length (e .value))
+-- that entry; nothing where no entry starts at the place
+unfoldable pub placeIn : Which → ℕ → List Entry → Option (Option Entry)
+placeIn which at [] = none
+placeIn which at (e ∷ es) = elim (eqb (e .start) at) [ true ↦ some (pick which e es) | false ↦ placeIn which at es ]
+
+-- the entry at a place
+abbrev pub atIn : ℕ → List Entry → Option (Option Entry)
+atIn at es = placeIn WhichCase.Here at es
+
+-- the entry after it
+abbrev pub nextIn : ℕ → List Entry → Option (Option Entry)
+nextIn at es = placeIn WhichCase.After at es
+
+-- the answer: an entry, none, or that no entry starts at the place; bad where the key buffer, of n bytes, has no room for the entry's key
+unfoldable pub foundAnswer : ℕ → Option (Option Entry) → Found
+foundAnswer n none = FoundCase.NoPlace
+foundAnswer n (some none) = FoundCase.None
+foundAnswer n (some (some e)) =
+    elim (leb (length (e .key)) n) [ true ↦ FoundCase.Entry (e .start) (length (e .key)) (e .valueAt) (length (e .value)) | false ↦ FoundCase.Bad ]
 
 -- and the key buffer
 unfoldable pub bufferLeft : List ℕ → Option (Option Entry) → List ℕ
@@ -91,9 +107,8 @@ Inside s k FoundCase.None k′ = k′ ≡ k
 Inside s k FoundCase.NoPlace k′ = k′ ≡ k
 Inside s k FoundCase.Bad k′ = k′ ≡ k
 
--- reading a block s with a key buffer k answers r and leaves k′: what is said of its entries, where it is readable, they are ordered so and the buffer has
--- 1,032 bytes or more
+-- reading a block s with a key buffer k answers r and leaves k′: what is said of its entries, where it is readable and they are ordered so
 pub record Said (s : List ℕ) (says : List Entry → Option (Option Entry)) (ordered : List Entry → Bool) (k : List ℕ) (r : Found) (k′ : List ℕ) : Type 0 where
-  pub answer : (es : List Entry) → readable s ≡ some es → ordered es ≡ true → 1032 ≤ length k → r ≡ foundAnswer (says es)
-  pub buffer : (es : List Entry) → readable s ≡ some es → ordered es ≡ true → 1032 ≤ length k → k′ ≡ bufferLeft k (says es)
+  pub answer : (es : List Entry) → readable s ≡ some es → ordered es ≡ true → r ≡ foundAnswer (length k) (says es)
+  pub buffer : (es : List Entry) → readable s ≡ some es → ordered es ≡ true → k′ ≡ bufferLeft k (says es)
   pub inside : Inside s k r k′

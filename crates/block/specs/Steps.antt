@@ -132,8 +132,8 @@ readFrom d at before = do
 
 -- reading d from a place on, after a key, with a key buffer k answers r and leaves k′: what is said of the entries there
 pub record Told (d : List ℕ) (at : ℕ) (before : List ℕ) (says : List Entry → Option (Option Entry)) (k : List ℕ) (r : Found) (k′ : List ℕ) : Type 0 where
-  pub answer : (es : List Entry) → readFrom d at before ≡ some es → 1032 ≤ length k → r ≡ foundAnswer (says es)
-  pub buffer : (es : List Entry) → readFrom d at before ≡ some es → 1032 ≤ length k → k′ ≡ bufferLeft k (says es)
+  pub answer : (es : List Entry) → readFrom d at before ≡ some es → r ≡ foundAnswer (length k) (says es)
+  pub buffer : (es : List Entry) → readFrom d at before ≡ some es → k′ ≡ bufferLeft k (says es)
   pub inside : Inside d k r k′
 
 -- the same is said of the entries from a place on, read after no key

@@ -9,7 +9,8 @@ ghost use Rattle.codec.specs.Bytes.{numbers, sameBytes};
 ghost use Rattle.keys.specs.Order.{isLess, pointOf, byPoint};
 ghost use Rattle.block.specs.Block.{head, entry};
 ghost use Rattle.block.specs.Formed.{isFormed, isHandle, within, bloomName, entryFits, enough};
-ghost use Rattle.block.specs.Search.{kindOf, entryAnswer, keyLeft, seekIn, firstIn, nextIn, inOrder, anyOrder, Said};
+ghost use Rattle.block.specs.Search.{kindOf, entryAnswer, keyLeft, seekIn, firstIn, placeIn, atIn, nextIn, inOrder, anyOrder, Said};
+ghost use Rattle.block.specs.declared.block.Which.{Which};
 ghost use Rattle.block.specs.Steps.{headAfter, headAnswer, FreshAt, rowsOf, rowsAnswer, Laid, restartAt, marks, filledFrom, Passes, Handed, Told, From, Probed};
 use codec::blockhandle::OneHandle;
 use codec::fixed::U32Read;
@@ -67,8 +68,8 @@ enum FreshRead {
     Bad,
 }
 
-// Where the restarts start, and how many there are.
-enum RowsRead {
+// Where the restarts start, which is where the entries end, and how many there are.
+pub enum RowsRead {
     Rows { end: usize, count: usize },
     Bad,
 }
@@ -81,6 +82,12 @@ enum Passed {
         mark: usize,
     },
     Wrong,
+}
+
+// Which entry a place stands for: the one that starts there, or the one after it.
+pub enum Which {
+    Here,
+    After,
 }
 
 // Whether a restart's entry is below a target, and where it starts.
@@ -223,7 +230,7 @@ fn fresh_key(d: &[u8], at: usize) -> FreshRead
 }
 
 // Where the restarts of a block start, and how many there are: at least one.
-fn layout(s: &[u8]) -> RowsRead
+pub fn layout(s: &[u8]) -> RowsRead
     ensures { λ r. ⌜ r ≡ rowsAnswer (rowsOf (now (s .entry))) ⌝ }
 {
     if s.len() < 4 {
@@ -307,7 +314,7 @@ fn hand(key: &mut [u8], found: &[u8], start: usize, value_at: usize, value_len: 
 }
 
 // Whether a key is the name of the metaindex entry for the filter.
-fn is_bloom(key: &[u8]) -> bool
+pub fn is_bloom(key: &[u8]) -> bool
     ensures { λ r. ⌜ r ≡ sameBytes (now (key .entry)) bloomName ⌝ }
 {
     match keys::cmp::cmp(key, b"filter.leveldb.BuiltinBloomFilter2") {
@@ -496,7 +503,7 @@ pub fn first(s: &[u8], key: &mut [u8]) -> Found
 // The last restart that is not above a place.
 fn restart_before(s: &[u8], end: usize, count: usize, at: usize) -> usize
     requires { ⌜ Laid (now s) end count × (at < end) ⌝ }
-    ensures { λ r. ⌜ From (now (s .entry)) (take end (now (s .entry))) (nextIn at) anyOrder r ⌝ }
+    ensures { λ r. ⌜ ((which : Which) → From (now (s .entry)) (take end (now (s .entry))) (placeIn which at) anyOrder r) ⌝ }
 {
     let mut left: usize = 0;
     let mut right: usize = count - 1;
@@ -530,10 +537,21 @@ fn entry_after(d: &[u8], at: usize, buf: &mut [u8], n: usize, key: &mut [u8]) ->
     }
 }
 
-// The entry after the one at a place of d, read from a restart on.
-fn walk(d: &[u8], from: usize, at: usize, key: &mut [u8]) -> Found
+// The entry at a place of d or the one after it, where the key before is the first n bytes of buf.
+fn entry_by(d: &[u8], at: usize, buf: &mut [u8], n: usize, which: Which, key: &mut [u8]) -> Found
+    requires { ⌜ (at < length (now d)) × (length (now buf) ≡ 1032) ⌝ }
+    ensures { λ r. ⌜ Told (now (d .entry)) at (take n (now (buf .entry))) (placeIn which at) (now (key .entry)) r (now (key .exit)) ⌝ }
+{
+    match which {
+        Which::Here => entry_here(d, at, buf, n, key),
+        Which::After => entry_after(d, at, buf, n, key),
+    }
+}
+
+// The same, read from a restart on.
+fn walk(d: &[u8], from: usize, at: usize, which: Which, key: &mut [u8]) -> Found
     requires { ⌜ (from ≤ length (now d)) × (at < length (now d)) ⌝ }
-    ensures { λ r. ⌜ Told (now (d .entry)) from [] (nextIn at) (now (key .entry)) r (now (key .exit)) ⌝ }
+    ensures { λ r. ⌜ Told (now (d .entry)) from [] (placeIn which at) (now (key .entry)) r (now (key .exit)) ⌝ }
 {
     let mut buf = [0u8; 1032];
     let mut len: usize = 0;
@@ -555,15 +573,15 @@ fn walk(d: &[u8], from: usize, at: usize, key: &mut [u8]) -> Found
         }
     }
     if p == at {
-        entry_after(d, at, &mut buf, len, key)
+        entry_by(d, at, &mut buf, len, which, key)
     } else {
         Found::NoPlace
     }
 }
 
-// The entry after the one that starts at a place.
-pub fn next(s: &[u8], at: usize, key: &mut [u8]) -> Found
-    ensures { λ r. ⌜ Said (now (s .entry)) (nextIn at) anyOrder (now (key .entry)) r (now (key .exit)) ⌝ }
+// The same in a whole block.
+fn by_place(s: &[u8], at: usize, which: Which, key: &mut [u8]) -> Found
+    ensures { λ r. ⌜ Said (now (s .entry)) (placeIn which at) anyOrder (now (key .entry)) r (now (key .exit)) ⌝ }
 {
     match layout(s) {
         RowsRead::Bad => Found::Bad,
@@ -572,9 +590,23 @@ pub fn next(s: &[u8], at: usize, key: &mut [u8]) -> Found
                 return Found::NoPlace;
             }
             let from = restart_before(s, end, count, at);
-            walk(&s[..end], from, at, key)
+            walk(&s[..end], from, at, which, key)
         }
     }
+}
+
+// The entry that starts at a place.
+pub fn current(s: &[u8], at: usize, key: &mut [u8]) -> Found
+    ensures { λ r. ⌜ Said (now (s .entry)) (atIn at) anyOrder (now (key .entry)) r (now (key .exit)) ⌝ }
+{
+    by_place(s, at, Which::Here, key)
+}
+
+// The entry after the one that starts at a place.
+pub fn next(s: &[u8], at: usize, key: &mut [u8]) -> Found
+    ensures { λ r. ⌜ Said (now (s .entry)) (nextIn at) anyOrder (now (key .entry)) r (now (key .exit)) ⌝ }
+{
+    by_place(s, at, Which::After, key)
 }
 
 // Whether a key is below a target.

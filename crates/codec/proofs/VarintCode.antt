@@ -12,7 +12,7 @@ use lib.Seq.{drop-cons}
 use Rattle.codec.specs.declared.blockhandle.HandleRead.the-variants as HandleCase
 use Rattle.codec.specs.declared.blockhandle.OneHandle.the-variants as OneCase
 use Rattle.codec.specs.declared.varint.VarintRead.the-variants.{Value, Bad}
-use Rattle.codec.specs.Varint.{Read, varintFrom, varint, varintBytesF, HandleRead, handle, oneHandle}
+use Rattle.codec.specs.Varint.{Read, varintFrom, varint, varintBytesF, Handle, HandleRead, handle, oneHandle}
 use Rattle.codec.specs.Answers.{varintAnswer, handleAnswer, oneHandleAnswer}
 use Rattle.codec.proofs.VarintLaws.{read-is, resume, resume-more, from-nil, from-last, from-more, varint-none, varint-over, varint-some, bytes-more, varint-size, handle-size, handle-none, handle-half, handle-some, one-some, one-left, one-none}
 
@@ -117,6 +117,24 @@ module _ (s : List ℕ) where
 
   pub handle-within : {v w n : ℕ} → handleAnswer (handle s) ≡ HandleCase.Handle v w n → n ≤ length s
   handle-within e = handle-size s (a-handle e) .there
+
+  pub no-one : oneHandleAnswer (oneHandle s) ≡ OneCase.Bad → oneHandle s ≡ none
+  no-one = go (oneHandle s)
+    where
+      go : (o : Option Handle) → oneHandleAnswer o ≡ OneCase.Bad → o ≡ none
+      go none e = refl
+      go (some h) e = unfold oneHandleAnswer in cc
+
+  pub a-one : {v w : ℕ} → oneHandleAnswer (oneHandle s) ≡ OneCase.Handle v w → oneHandle s ≡ some (record { offset = v; size = w })
+  a-one {v} {w} = go (oneHandle s)
+    where
+      go : (o : Option Handle) → oneHandleAnswer o ≡ OneCase.Handle v w → o ≡ some (record { offset = v; size = w })
+      go none e = unfold oneHandleAnswer in cc
+      go (some h) e =
+          unfold oneHandleAnswer in
+          let p : h .offset ≡ v = cc in
+          let q : h .size ≡ w = cc in
+          λ i. some (record { offset = p i; size = q i })
 
 -- ---- a handle by the answers on its two numbers, and one handle by the answer on a handle
 

@@ -145,7 +145,7 @@ pub fn cmp(a: &[u8], b: &[u8]) -> Ordering
 }
 
 // Whether a is below b.
-fn below(a: &[u8], b: &[u8]) -> bool
+pub fn below(a: &[u8], b: &[u8]) -> bool
     ensures { λ r. ⌜ r ≡ bytesBelow (now (a .entry)) (now (b .entry)) ⌝ }
 {
     match cmp(a, b) {

@@ -19,9 +19,9 @@ use Rattle.codec.proofs.FixedLaws.{number-read, a-u64}
 use Rattle.codec.proofs.VarintCode.{no-handle, a-handle}
 use Rattle.table.specs.declared.footer.FooterRead.the-variants as FooterCase
 use Rattle.table.specs.Answers.{footerAnswer}
-use Rattle.table.specs.Checked.{_>>=_, ask, orRefuse}
+use Rattle.table.specs.Checked.{Checked, pass, refuse, _>>=_, ask, orRefuse}
 use Rattle.table.specs.Options.{tableLimit}
-use Rattle.table.specs.Table.{magic, endsBefore, placed, footerHandles, footer}
+use Rattle.table.specs.Table.{magic, endsBefore, placed, Footer, footerHandles, footer}
 
 -- ---- where a block may stand
 
@@ -105,3 +105,27 @@ module _ (t : List ℕ) where
 pub part-is : (t : List ℕ) → 48 ≤ length t → take (length t - 8 - (length t - 48)) (drop (length t - 48) t) ≡ part t (length t - 48) 40
 unfolding part
 part-is t l = let e : length t - 8 - (length t - 48) ≡ 40 = omega arith in rw e
+
+-- ---- what decoding says of the footer
+
+module _ (t : List ℕ) where
+  pub no-footer : {n : ℕ} → footerAnswer (footer t) ≡ FooterCase.Refused n → footer t ≡ refuse n
+  unfolding footerAnswer
+  no-footer {n} = go (footer t)
+    where
+      go : (f : Checked Footer) → footerAnswer f ≡ FooterCase.Refused n → f ≡ refuse n
+      go (pass f) e = absurd (let z : _≡_ {A = ℕ} 0 1 = cc in omega arith)
+      go (refuse m) e = cc
+
+  pub a-footer : {a b c d : ℕ} → footerAnswer (footer t) ≡ FooterCase.Footer a b c d → footer t ≡ pass (record { metaindex = record { offset = a; size = b }; index = record { offset = c; size = d } })
+  unfolding footerAnswer
+  a-footer {a} {b} {c} {d} = go (footer t)
+    where
+      go : (f : Checked Footer) → footerAnswer f ≡ FooterCase.Footer a b c d → f ≡ pass (record { metaindex = record { offset = a; size = b }; index = record { offset = c; size = d } })
+      go (pass f) e =
+          let p : f .metaindex .offset ≡ a = cc in
+          let q : f .metaindex .size ≡ b = cc in
+          let r : f .index .offset ≡ c = cc in
+          let s : f .index .size ≡ d = cc in
+          λ i. pass (record { metaindex = record { offset = p i; size = q i }; index = record { offset = r i; size = s i } })
+      go (refuse n) e = absurd (let z : _≡_ {A = ℕ} 0 1 = cc in omega arith)

@@ -188,7 +188,7 @@ pub data Laid (t : List ℕ) (f : Option (List ℕ)) : List Entry → Type 0 whe
   nil : Laid t f []
   cons : {ix : Entry} {ixs : List Entry} → Settled t f ix ixs → Laid t f ixs → Laid t f (ix ∷ ixs)
 
-all-entries : (g : Pair → Bool) (es : List Entry) → T (all g (pairsOf es)) → All (λ (e : Entry). T (g (asPair e))) es
+pub all-entries : (g : Pair → Bool) (es : List Entry) → T (all g (pairsOf es)) → All (λ (e : Entry). T (g (asPair e))) es
 unfolding all
 all-entries g [] a = All.nil
 all-entries g (e ∷ es) a = All.cons (and-l (g (asPair e)) (all g (pairsOf es)) a) (all-entries g es (and-r (g (asPair e)) (all g (pairsOf es)) a))

@@ -3,7 +3,8 @@
 use Prim.Native.Nat.{_+_, _-_, _/_, _≤_, _<_}
 use native.Mathlib.Omega.{arith}
 use lib.ListN.{take}
-use Rattle.block.specs.Search.{nextIn, anyOrder}
+use Rattle.block.specs.declared.block.Which.{Which}
+use Rattle.block.specs.Search.{placeIn, anyOrder}
 use Rattle.block.specs.Steps.{From}
 use Rattle.block.proofs.LayoutLaws.{entries-size}
 use Rattle.block.proofs.SeekLaws.{from-start, from-before}
@@ -12,7 +13,7 @@ use Rattle.block.proofs.block.restart_before.Statement.{statement}
 use Rattle.block.proofs.block.restart_before.Tie as tie
 
 abbrev Inv-loop : tie.InvT-loop
-Inv-loop s end count at left₀ right₀ from₀ left right from = (left ≤ right) × (right < count) × From s (take end s) (nextIn at) anyOrder from
+Inv-loop s end count at left₀ right₀ from₀ left right from = (left ≤ right) × (right < count) × ((which : Which) → From s (take end s) (placeIn which at) anyOrder from)
 
 abbrev μ-loop : tie.MeasureT-loop
 μ-loop s end count at left₀ right₀ from₀ left right from = right - left
@@ -21,7 +22,7 @@ sub-right : tie.Need-sub-right Inv-loop μ-loop
 sub-right c = search needs
 
 loop-holds : tie.Need-loop-holds Inv-loop μ-loop
-loop-holds c = let b = c .before in (search needs, search needs, from-start (b .args .s .now) (b .pre .0) (nextIn (b .args .at)) anyOrder)
+loop-holds c = let b = c .before in (search needs, search needs, λ which. from-start (b .args .s .now) (b .pre .0) (placeIn which (b .args .at)) anyOrder)
 
 sub-mid : tie.Need-sub-mid Inv-loop μ-loop
 sub-mid c = search needs
@@ -44,7 +45,7 @@ loop-again c =
     let b = l .before .before in
     let i = l .loop .inv in
     let t = c .before .before .loop-test .taken in
-    (search needs, search needs, from-before (b .args .s .now) (b .pre .0) (l .loop .left + (l .loop .right - l .loop .left + 1) / 2) (omega arith) (omega (arith, i .1)) (c .before .restart .ensures) (omega (arith, entries-size (b .args .s .now) (b .pre .0), b .pre .1)) (b .args .at) (c .if1 .taken))
+    (search needs, search needs, λ which. from-before (b .args .s .now) (b .pre .0) (l .loop .left + (l .loop .right - l .loop .left + 1) / 2) (omega arith) (omega (arith, i .1)) (c .before .restart .ensures) (omega (arith, entries-size (b .args .s .now) (b .pre .0), b .pre .1)) which (b .args .at) (c .if1 .taken))
 
 sub-right-2 : tie.Need-sub-right-2 Inv-loop μ-loop
 sub-right-2 c = search needs

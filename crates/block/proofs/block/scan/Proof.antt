@@ -3,6 +3,7 @@
 use Prim.Native.Nat.{ℕ, _-_, _≤_}
 use mathlib.Core.Path.{_≡_, refl, sym, ap, _∙_}
 use mathlib.Core.List.{List}
+use mathlib.Core.Option.{some}
 use native.Mathlib.Omega.{arith}
 use lib.ListN.{length, take}
 use lib.Seq.{length-take-le}
@@ -10,7 +11,7 @@ use Rattle.keys.specs.Order.{Point, isLess, pointOf, byPoint}
 use Rattle.block.specs.Search.{seekIn}
 use Rattle.block.proofs.ReadLaws.{entry-start}
 use Rattle.block.proofs.EntryLaws.{Taken, taken}
-use Rattle.block.proofs.WalkLaws.{Scanning, scan-start, scan-bad, scan-end, scan-more, scan-hit}
+use Rattle.block.proofs.WalkLaws.{Scanning, Same, scan-start, scan-bad, scan-end, scan-more, scan-hit}
 use Rattle.block.proofs.FoundLaws.{told-bad, told-none, told-entry}
 use Rattle.block.proofs.SeekLaws.{seek-here, seek-past, seek-end}
 use borrow.Author.Needs.{needs}
@@ -18,7 +19,7 @@ use Rattle.block.proofs.block.scan.Statement.{statement}
 use Rattle.block.proofs.block.scan.Tie as tie
 
 abbrev Inv-loop : tie.InvT-loop
-Inv-loop d from word sequence key₀ buf₀ len₀ at₀ key buf len at = Scanning d from (seekIn (record { word = word; edition = sequence })) buf len at × (key ≡ key₀)
+Inv-loop d from word sequence key₀ buf₀ len₀ at₀ key buf len at = Scanning d from (Same (seekIn (record { word = word; edition = sequence }))) buf len at × (key ≡ key₀)
 
 abbrev μ-loop : tie.MeasureT-loop
 μ-loop d from word sequence key₀ buf₀ len₀ at₀ key buf len at = length d - at
@@ -59,7 +60,7 @@ order : (c : K) → isLess (byPoint (pointOf (entry c .step .here .key)) (point 
 order c = ap (λ (q : List ℕ). isLess (byPoint (pointOf q) (point (lp c)))) (sym (entry c .key))
 
 loop-holds : tie.Need-loop-holds Inv-loop μ-loop
-loop-holds c = let b = c .before .before .before in (scan-start (b .args .d .now) (b .args .from) (seekIn _) _ refl (b .pre), refl)
+loop-holds c = let b = c .before .before .before in (scan-start (b .args .d .now) (b .args .from) (Same (seekIn _)) _ refl (b .pre) (λ es. refl), refl)
 
 slice-aggregate-entry-at : tie.Need-slice-aggregate-entry-at Inv-loop μ-loop
 slice-aggregate-entry-at c = search needs
@@ -101,7 +102,7 @@ loop-again c =
     let k = c .before .before .before in
     let t = entry k in
     let l = lp k in
-    (scan-more (l .loop .inv .0) t (λ rest. seek-past (point l) (t .step .here) rest (order k ∙ sym (c .before .is-below .ensures) ∙ c .if1 .taken)), l .loop .inv .1)
+    (scan-more (l .loop .inv .0) t (Same (seekIn (point l))) (λ es rest same. same ∙ seek-past (point l) (t .step .here) rest (order k ∙ sym (c .before .is-below .ensures) ∙ c .if1 .taken)), l .loop .inv .1)
 
 array-share-prefix-buf-2 : tie.Need-array-share-prefix-buf-2 Inv-loop μ-loop
 array-share-prefix-buf-2 c = room (c .before .before .before .before)
@@ -123,7 +124,7 @@ returns-2 c =
     let l = lp k in
     let t = entry k in
     told-entry _ _ _ (seekIn (point l)) _ (t .step .here) (entry-start _ _ _ (t .step .reads)) (sym (t .key)) (t .step .valueAt) (t .step .valueSize) (t .step .within) (omega (arith, length-take-le (n k) (buf′ k) (room k), t .step .room))
-    (scan-hit (l .loop .inv .0) t (λ rest. seek-here (point l) (t .step .here) rest (order k ∙ sym (c .before .before .before .before .before .before .is-below .ensures) ∙ c .before .before .before .before .before .if1 .left)))
+    (scan-hit (l .loop .inv .0) t (λ es. seekIn (point l) es ≡ some (some (t .step .here))) (λ es rest same. same ∙ seek-here (point l) (t .step .here) rest (order k ∙ sym (c .before .before .before .before .before .before .is-below .ensures) ∙ c .before .before .before .before .before .if1 .left)))
     (rw (l .loop .inv .1) at (c .before .before .hand .ensures))
 
 same-length-3 : tie.Need-same-length-3 Inv-loop μ-loop

@@ -4,21 +4,21 @@ use mathlib.Core.Path.{refl, sym, _∙_}
 use mathlib.Core.List.{List}
 use native.Mathlib.Omega.{arith}
 use lib.ListN.{length}
-use Rattle.block.specs.Search.{nextIn}
+use Rattle.block.specs.Search.{placeIn}
 use Rattle.block.proofs.ReadLaws.{entry-start}
 use Rattle.block.proofs.EntryLaws.{Taken, taken}
-use Rattle.block.proofs.WalkLaws.{Scanning, scan-start, scan-bad, scan-more, scan-told}
+use Rattle.block.proofs.WalkLaws.{Scanning, Same, scan-start, scan-bad, scan-more, scan-told}
 use Rattle.block.proofs.FoundLaws.{told-bad, told-no-place}
-use Rattle.block.proofs.SeekLaws.{next-past, no-place}
+use Rattle.block.proofs.SeekLaws.{place-past, no-place}
 use borrow.Author.Needs.{needs}
 use Rattle.block.proofs.block.walk.Statement.{statement}
 use Rattle.block.proofs.block.walk.Tie as tie
 
 abbrev Inv-loop : tie.InvT-loop
-Inv-loop d from at key buf₀ len₀ p₀ buf len p = Scanning d from (nextIn at) buf len p
+Inv-loop d from at which key buf₀ len₀ p₀ buf len p = Scanning d from (Same (placeIn which at)) buf len p
 
 abbrev μ-loop : tie.MeasureT-loop
-μ-loop d from at key buf₀ len₀ p₀ buf len p = length d - p
+μ-loop d from at which key buf₀ len₀ p₀ buf len p = length d - p
 
 -- the loop's values, and the entry that was read
 abbrev L : Type 0
@@ -43,7 +43,7 @@ entry c =
     taken (start l .args .d .now) (l .loop .p) (l .loop .buf) (l .loop .len) (l .loop .inv .within) (l .loop .inv .room) (sym (r .ensures .0) ∙ c .before .key-len .given .1) (r .ensures .1) (r .kept .1 .1 .0)
 
 loop-holds : tie.Need-loop-holds Inv-loop μ-loop
-loop-holds c = let b = c .before .before in scan-start (b .args .d .now) (b .args .from) (nextIn (b .args .at)) _ refl (b .pre .0)
+loop-holds c = let b = c .before .before in scan-start (b .args .d .now) (b .args .from) (Same (placeIn (b .args .which) (b .args .at))) _ refl (b .pre .0) (λ es. refl)
 
 slice-aggregate-entry-at : tie.Need-slice-aggregate-entry-at Inv-loop μ-loop
 slice-aggregate-entry-at c = search needs
@@ -58,7 +58,7 @@ returns : tie.Need-returns Inv-loop μ-loop
 returns c =
     let l = c .before .before .before .before .before .before in
     let b = start l in
-    told-bad _ _ _ (nextIn (b .args .at)) _ (scan-bad (l .loop .inv) (omega (arith, c .before .before .before .before .before .loop-test .taken, b .pre .1)) refl (sym (c .before .before .before .entry-at .ensures .0) ∙ c .enum-told .given .1))
+    told-bad _ _ _ (placeIn (b .args .which) (b .args .at)) _ (scan-bad (l .loop .inv) (omega (arith, c .before .before .before .before .before .loop-test .taken, b .pre .1)) refl (sym (c .before .before .before .entry-at .ensures .0) ∙ c .enum-told .given .1))
 
 enum-known-key-len : tie.Need-enum-known-key-len Inv-loop μ-loop
 enum-known-key-len c = search needs
@@ -73,13 +73,13 @@ loop-again : tie.Need-loop-again Inv-loop μ-loop
 loop-again c =
     let t = entry c in
     let l = lp c in
-    scan-more (l .loop .inv) t (λ rest. next-past (start l .args .at) (t .step .here) rest (λ e. omega (arith, c .before .before .before .before .before .before .loop-test .taken, entry-start _ _ _ (t .step .reads))))
+    scan-more (l .loop .inv) t (Same (placeIn (start l .args .which) (start l .args .at))) (λ es rest same. same ∙ place-past (start l .args .which) (start l .args .at) (t .step .here) rest (λ e. omega (arith, c .before .before .before .before .before .before .loop-test .taken, entry-start _ _ _ (t .step .reads))))
 
-slice-aggregate-entry-after : tie.Need-slice-aggregate-entry-after Inv-loop μ-loop
-slice-aggregate-entry-after c = search needs
+slice-aggregate-entry-by : tie.Need-slice-aggregate-entry-by Inv-loop μ-loop
+slice-aggregate-entry-by c = search needs
 
-entry-after-requires : tie.Need-entry-after-requires Inv-loop μ-loop
-entry-after-requires c κs = search needs
+entry-by-requires : tie.Need-entry-by-requires Inv-loop μ-loop
+entry-by-requires c κs = search needs
 
 same-length : tie.Need-same-length Inv-loop μ-loop
 same-length c = search needs
@@ -87,15 +87,15 @@ same-length c = search needs
 returns-2 : tie.Need-returns-2 Inv-loop μ-loop
 returns-2 c =
     let l = c .before .before .before .before .before .before .before .before in
-    scan-told (l .loop .inv) (rw (c .before .before .before .before .before .before .if1 .taken) (c .before .before .before .entry-after .ensures))
+    scan-told (l .loop .inv) (rw (c .before .before .before .before .before .before .if1 .taken) (c .before .before .before .entry-by .ensures))
 
 returns-3 : tie.Need-returns-3 Inv-loop μ-loop
 returns-3 c =
     let l = c .before .before in
     let b = start l in
-    told-no-place _ _ _ (nextIn (b .args .at)) _ (λ es read.
+    told-no-place _ _ _ (placeIn (b .args .which) (b .args .at)) _ (λ es read.
     let r = l .loop .inv .left es read in
-    r .same ∙ no-place _ _ _ (b .args .at) (l .loop .inv .within) (omega (arith, c .before .loop-test .left, c .if1 .left)) (r .rest) (r .reads))
+    r .same ∙ no-place _ _ _ (b .args .which) (b .args .at) (l .loop .inv .within) (omega (arith, c .before .loop-test .left, c .if1 .left)) (r .rest) (r .reads))
 
 pub walk-spec : {M : Type 1} → statement M
 walk-spec =
@@ -112,8 +112,8 @@ walk-spec =
     add-p
     loop-less
     loop-again
-    slice-aggregate-entry-after
-    entry-after-requires
+    slice-aggregate-entry-by
+    entry-by-requires
     same-length
     returns-2
     returns-3)

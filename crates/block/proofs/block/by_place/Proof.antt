@@ -1,17 +1,17 @@
--- `block::block::next` meets its contract.
+-- `block::block::by_place` meets its contract.
 use Prim.Native.Nat.{ℕ}
 use mathlib.Core.Path.{sym, _∙_}
 use mathlib.Core.List.{List}
 use native.Mathlib.Omega.{arith}
 use lib.ListN.{take}
-use Rattle.block.specs.Search.{nextIn, anyOrder}
+use Rattle.block.specs.Search.{placeIn, anyOrder}
 use Rattle.block.specs.Steps.{Laid}
 use Rattle.block.proofs.LayoutLaws.{laid, entries-size}
 use Rattle.block.proofs.FoundLaws.{said-from}
 use Rattle.block.proofs.SeekLaws.{said-bad, no-place-end}
 use borrow.Author.Needs.{needs}
-use Rattle.block.proofs.block.next.Statement.{statement}
-use Rattle.block.proofs.block.next.Tie as tie
+use Rattle.block.proofs.block.by_place.Statement.{statement}
+use Rattle.block.proofs.block.by_place.Tie as tie
 
 -- the layout
 abbrev K : Type 0
@@ -39,7 +39,7 @@ enum-known-end : tie.Need-enum-known-end
 enum-known-end c = search needs
 
 returns : tie.Need-returns
-returns c = no-place-end _ (lay (c .before)) _ _ (c .if1 .taken)
+returns c = no-place-end _ (lay (c .before)) _ _ _ (c .if1 .taken)
 
 restart-before-requires : tie.Need-restart-before-requires
 restart-before-requires c κs = (lay (c .before), c .if1 .left)
@@ -48,10 +48,10 @@ slice-aggregate-walk : tie.Need-slice-aggregate-walk
 slice-aggregate-walk c = let k = c .before .before .before in sym (entries-size (S k) (lay k))
 
 walk-requires : tie.Need-walk-requires
-walk-requires c κs = let k = c .before .before .before .before in (c .before .before .restart-before .ensures .within, omega (arith, entries-size (S k) (lay k), c .before .before .before .if1 .left))
+walk-requires c κs = let k = c .before .before .before .before in (c .before .before .restart-before .ensures (c .before .before .before .before .before .before .before .before .before .before .args .which) .within, omega (arith, entries-size (S k) (lay k), c .before .before .before .if1 .left))
 
 returns-2 : tie.Need-returns-2
-returns-2 c = said-bad _ (nextIn (c .before .before .before .before .before .args .at)) anyOrder _ (sym (c .before .before .layout .ensures) ∙ c .enum-told .given .1)
+returns-2 c = said-bad _ (placeIn (c .before .before .before .before .before .args .which) (c .before .before .before .before .before .args .at)) anyOrder _ (sym (c .before .before .layout .ensures) ∙ c .enum-told .given .1)
 
 same-length : tie.Need-same-length
 same-length c = search needs
@@ -59,10 +59,10 @@ same-length c = search needs
 returns-3 : tie.Need-returns-3
 returns-3 c =
     let k = c .before .before .before .before .before .before .before in
-    said-from (S k) (take (end k) (S k)) (nextIn (start k .args .at)) anyOrder _ _ (omega (arith, entries-size (S k) (lay k), lay k .fits)) (c .before .before .before .before .before .restart-before .ensures) (c .before .before .walk .ensures)
+    said-from (S k) (take (end k) (S k)) (placeIn (start k .args .which) (start k .args .at)) anyOrder _ _ (omega (arith, entries-size (S k) (lay k), lay k .fits)) (c .before .before .before .before .before .restart-before .ensures (start k .args .which)) (c .before .before .walk .ensures)
 
-pub next-spec : {M : Type 1} → statement M
-next-spec =
+pub by-place-spec : {M : Type 1} → statement M
+by-place-spec =
     tie.close
     (tie.spec
     layout-requires

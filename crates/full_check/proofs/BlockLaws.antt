@@ -1,0 +1,159 @@
+-- A block in a table: where its entries end, that it is well formed, and that its trailer stands inside the table.
+use Prim.Native.Nat.{ℕ, _+_, _-_, _≤_}
+use mathlib.Core.Path.{_≡_, refl, sym, ap, _∙_}
+use mathlib.Core.Bool.{Bool, true, false, false≢true}
+use mathlib.Core.List.{List, []}
+use mathlib.Core.Option.{Option, none, some, Option·none-ne-some}
+use native.Mathlib.Omega.{arith}
+use lib.ListN.{length, take, drop, length-take, length-drop}
+use Rattle.codec.specs.Bytes.{part}
+use Rattle.codec.specs.Checksum.{sealOf, trailer, trailerStands}
+use Rattle.codec.proofs.BytesLaws.{same-bytes, bytes-length, part-between}
+use Rattle.codec.proofs.MaybeLaws.{getting}
+use Rattle.codec.proofs.Prelude.{is-true, true-is}
+use Rattle.block.specs.declared.block.RowsRead.the-variants as RowsCase
+use Rattle.block.specs.Block.{Entry, pairsOf}
+use Rattle.block.specs.Formed.{Kind, wellFormed, isFormed, rises}
+use Rattle.block.specs.Search.{readable}
+use Rattle.block.specs.Steps.{Rows, rowsOf, rowsAnswer, Laid, readFrom}
+use Rattle.block.proofs.FormedLaws.{formed-readable}
+use Rattle.block.proofs.LayoutLaws.{laid, no-block}
+use Rattle.block.proofs.SeekLaws.{read-whole}
+use Rattle.table.specs.Checked.{Checked, pass, refuse, _>>=_, ask, orRefuse}
+use Rattle.table.specs.Table.{contents, sealed}
+use Rattle.table.proofs.CheckedLaws.{passing, asking, orRefuse-pass, pass-same}
+use Rattle.full_check.specs.declared.check.Verdict.the-variants as VerdictCase
+use Rattle.full_check.specs.Steps.{endOf, lessOf, sortedIn, sortedAt, Judged}
+
+-- ---- where the entries end
+
+endBy : Option Rows → ℕ
+endBy none = 0
+endBy (some w) = w .end
+
+end-by : (s : List ℕ) → endOf s ≡ endBy (rowsOf s)
+unfolding endOf endBy
+end-by s = go (rowsOf s)
+  where
+    go : (o : Option Rows) → elim o as (λ (_ : Option Rows). ℕ) [ none ↦ 0 | some w ↦ w .end ] ≡ endBy o
+    go none = refl
+    go (some w) = refl
+
+pub end-none : (s : List ℕ) → rowsAnswer (rowsOf s) ≡ RowsCase.Bad → 0 ≡ endOf s
+unfolding endBy rowsAnswer
+end-none s e = sym (end-by s ∙ go (rowsOf s) e)
+  where
+    go : (o : Option Rows) → rowsAnswer o ≡ RowsCase.Bad → endBy o ≡ 0
+    go none e = refl
+    go (some w) e = cc
+
+pub end-rows : (s : List ℕ) {end count : ℕ} → rowsAnswer (rowsOf s) ≡ RowsCase.Rows end count → end ≡ endOf s
+unfolding endBy rowsAnswer
+end-rows s {end} {count} e = sym (end-by s ∙ go (rowsOf s) e)
+  where
+    go : (o : Option Rows) → rowsAnswer o ≡ RowsCase.Rows end count → endBy o ≡ end
+    go none e = cc
+    go (some w) e = cc
+
+-- a layout, where there is one
+with-rows : {C : Type 0} (s : List ℕ) → (rowsAnswer (rowsOf s) ≡ RowsCase.Bad → C) → ((w : Rows) → Laid s (w .end) (w .count) → endOf s ≡ w .end → C) → C
+unfolding rowsAnswer endBy
+with-rows {C} s f g = go (rowsOf s) refl
+  where
+    go : (o : Option Rows) → rowsOf s ≡ o → C
+    go none e = f (ap rowsAnswer e)
+    go (some w) e = g w (laid s (ap rowsAnswer e)) (end-by s ∙ ap endBy e)
+
+pub end-within : (s : List ℕ) → endOf s ≤ length s
+end-within s =
+    with-rows s
+    (λ e. omega (arith, end-none s e))
+    (λ w l e. omega (arith, l .fits))
+
+-- so these are the entries
+pub end-reads : (s : List ℕ) {es : List Entry} → readable s ≡ some es → readFrom (take (endOf s) s) 0 [] ≡ some es
+unfolding readable
+end-reads s {es} read =
+    with-rows s
+    (λ e. getting _ _ read λ b whole p. absurd (Option·none-ne-some b (sym (no-block s e) ∙ whole)))
+    (λ w l e. rw e (read-whole s l read))
+
+-- ---- well-formed blocks
+
+-- a block that was found well formed
+pub record Formed (kind : Kind) (s : List ℕ) : Type 0 where
+  pub entries : List Entry
+  pub is : wellFormed kind s ≡ some entries
+  pub reads : readFrom (take (endOf s) s) 0 [] ≡ some entries
+
+pub formed : (kind : Kind) (s : List ℕ) → isFormed kind s ≡ true → Formed kind s
+unfolding isFormed
+formed kind s f = go (wellFormed kind s) refl f
+  where
+    go : (o : Option (List Entry)) → wellFormed kind s ≡ o → elim o as (λ (_ : Option (List Entry)). Bool) [ none ↦ false | some es ↦ true ] ≡ true → Formed kind s
+    go none e f = absurd (false≢true f)
+    go (some es) e f = record { entries = es; is = e; reads = end-reads s (formed-readable kind s e) }
+
+-- its entries, where code found that they end
+pub formed-to : {kind : Kind} {s : List ℕ} (f : Formed kind s) {end : ℕ} → end ≡ endOf s → readFrom (take end s) 0 [] ≡ some (f .entries)
+formed-to f e = rw e (f .reads)
+
+pub not-formed : (kind : Kind) (s : List ℕ) → isFormed kind s ≡ false → wellFormed kind s ≡ none
+unfolding isFormed
+not-formed kind s f = go (wellFormed kind s) refl f
+  where
+    go : (o : Option (List Entry)) → wellFormed kind s ≡ o → elim o as (λ (_ : Option (List Entry)). Bool) [ none ↦ false | some es ↦ true ] ≡ false → wellFormed kind s ≡ none
+    go none e f = e
+    go (some es) e f = absurd (false≢true (sym f))
+
+-- ---- a block with its trailer
+
+pub stands-within : (t : List ℕ) (offset size : ℕ) → trailerStands t offset size ≡ true → offset + size + 5 ≤ length t
+unfolding trailerStands trailer part
+stands-within t offset size e =
+    let l = ap length (same-bytes (part t (offset + size) 5) (trailer (part t offset size)) (true-is e)) in
+    omega (arith, l, bytes-length 4 (sealOf (part t offset size)), length-take 5 (drop (offset + size) t), length-drop (offset + size) t)
+
+-- ---- metaindex and index
+
+pub judged-pass : {c : Checked (List Entry)} {es : List Entry} → c ≡ pass es → Judged c VerdictCase.Pass
+judged-pass {es = es} e = (es, e)
+
+module _ (kind : Kind) (s : List ℕ) where
+  pub sorted-malformed : isFormed kind s ≡ false → sortedIn kind s ≡ refuse 10
+  unfolding sortedIn orRefuse _>>=_
+  sorted-malformed f = rw (not-formed kind s f)
+
+  module _ {es : List Entry} (is : wellFormed kind s ≡ some es) where
+    pub sorted-falls : rises (lessOf kind) (pairsOf es) ≡ false → sortedIn kind s ≡ refuse 11
+    unfolding sortedIn orRefuse _>>=_ ask
+    sorted-falls f = rw (is, f)
+
+    pub sorted-rises : rises (lessOf kind) (pairsOf es) ≡ true → sortedIn kind s ≡ pass es
+    unfolding sortedIn orRefuse _>>=_ ask
+    sorted-rises f = rw (is, f)
+
+module _ (kind : Kind) (t : List ℕ) (offset size : ℕ) where
+  pub sorted-unsealed : trailerStands t offset size ≡ false → sortedAt kind t (record { offset = offset; size = size }) ≡ refuse 9
+  unfolding sortedAt sealed _>>=_ ask
+  sorted-unsealed f = rw f
+
+  pub sorted-sealed : trailerStands t offset size ≡ true → sortedAt kind t (record { offset = offset; size = size }) ≡ sortedIn kind (take (offset + size - offset) (drop offset t))
+  unfolding sortedAt sealed _>>=_ ask contents
+  sorted-sealed f = rw (f, part-between t offset size)
+
+  -- what passed can be read, as code lends it
+  pub record Sorted (es : List Entry) : Type 0 where
+    pub within : offset + size + 5 ≤ length t
+    pub reads : readable (take (offset + size - offset) (drop offset t)) ≡ some es
+
+  pub sorted-read : {es : List Entry} → sortedAt kind t (record { offset = offset; size = size }) ≡ pass es → Sorted es
+  unfolding sortedAt sealed sortedIn contents
+  sorted-read {es} e =
+      asking _ _ _ e λ stands e.
+      passing _ _ e λ fs is e.
+      asking _ _ _ e λ up e.
+      record {
+        within = stands-within t offset size (is-true _ stands);
+        reads = rw (part-between t offset size) (formed-readable kind (part t offset size) (orRefuse-pass 10 _ is ∙ ap some (pass-same e)));
+      }

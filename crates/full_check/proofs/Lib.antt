@@ -1,0 +1,4 @@
+pub mod BlockLaws
+pub mod KeyLaws
+pub mod DataLaws
+pub mod CheckLaws

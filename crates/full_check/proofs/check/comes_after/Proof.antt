@@ -1,0 +1,51 @@
+-- `full_check::check::comes_after` meets its contract.
+use mathlib.Core.Path.{_∙_}
+use Rattle.full_check.proofs.KeyLaws.{after-first, after-data, after-index, after-meta}
+use borrow.Author.Needs.{needs}
+use Rattle.full_check.proofs.check.comes_after.Statement.{statement}
+use Rattle.full_check.proofs.check.comes_after.Tie as tie
+
+returns : tie.Need-returns
+returns c = after-first _ _ _ (c .if1 .taken)
+
+enum-told : tie.Need-enum-told
+enum-told c = search needs
+
+key-below-requires : tie.Need-key-below-requires
+key-below-requires c κs = search needs
+
+enum-told-2 : tie.Need-enum-told-2
+enum-told-2 c = search needs
+
+key-below-requires-2 : tie.Need-key-below-requires-2
+key-below-requires-2 c κs = search needs
+
+enum-told-3 : tie.Need-enum-told-3
+enum-told-3 c = search needs
+
+below-requires : tie.Need-below-requires
+below-requires c κs = search needs
+
+returns-2 : tie.Need-returns-2
+returns-2 c = c .key-below .ensures ∙ after-data _ _ (c .before .before .before .if1 .left) (c .before .enum-told .given .1)
+
+returns-3 : tie.Need-returns-3
+returns-3 c = c .key-below2 .ensures ∙ after-index _ _ (c .before .before .before .if1 .left) (c .before .enum-told2 .given .1)
+
+returns-4 : tie.Need-returns-4
+returns-4 c = c .below .ensures ∙ after-meta _ _ (c .before .before .before .if1 .left) (c .before .enum-told3 .given .1)
+
+pub comes-after-spec : {M : Type 1} → statement M
+comes-after-spec =
+    tie.close
+    (tie.spec
+    returns
+    enum-told
+    key-below-requires
+    enum-told-2
+    key-below-requires-2
+    enum-told-3
+    below-requires
+    returns-2
+    returns-3
+    returns-4)

@@ -1,0 +1,52 @@
+-- `full_check::check::rest` meets its contract.
+use mathlib.Core.Path.{sym, ap, _∙_}
+use mathlib.Core.Option.{Option}
+use Rattle.codec.specs.Varint.{Handle}
+use Rattle.block.specs.Block.{pairsOf}
+use Rattle.full_check.specs.Answers.{verdictOf}
+use Rattle.full_check.specs.Steps.{withFilter}
+use Rattle.full_check.proofs.CheckLaws.{no-filter, names-none, names-some}
+use borrow.Author.Needs.{needs}
+use Rattle.full_check.proofs.check.rest.Statement.{statement}
+use Rattle.full_check.proofs.check.rest.Tie as tie
+
+bloom-handle-requires : tie.Need-bloom-handle-requires
+bloom-handle-requires c κs = search needs
+
+enum-told : tie.Need-enum-told
+enum-told c = search needs
+
+slice-aggregate-blocks : tie.Need-slice-aggregate-blocks
+slice-aggregate-blocks c = search needs
+
+blocks-requires : tie.Need-blocks-requires
+blocks-requires c κs = search needs
+
+enum-known-offset : tie.Need-enum-known-offset
+enum-known-offset c = search needs
+
+filtered-requires : tie.Need-filtered-requires
+filtered-requires c κs = search needs
+
+returns : tie.Need-returns
+returns c =
+    let t = c .before .before .before .before .before .before .before .before .args .table .now in
+    λ ms es meta read. c .blocks2 .ensures es read ∙ ap verdictOf (sym (ap (λ (o : Option Handle). withFilter t o (pairsOf es)) (names-none _ (sym (c .before .before .before .before .bloom-handle .ensures .answer ms meta) ∙ c .before .before .enum-told .given .1)) ∙ no-filter t (pairsOf es)))
+
+returns-2 : tie.Need-returns-2
+returns-2 c =
+    let t = c .before .before .before .before .before .before .before .before .args .table .now in
+    λ ms es meta read. c .filtered .ensures es read ∙ ap verdictOf (sym (ap (λ (o : Option Handle). withFilter t o (pairsOf es)) (names-some _ (sym (c .before .before .before .before .bloom-handle .ensures .answer ms meta) ∙ c .before .before .offset .given .1))))
+
+pub rest-spec : {M : Type 1} → statement M
+rest-spec =
+    tie.close
+    (tie.spec
+    bloom-handle-requires
+    enum-told
+    slice-aggregate-blocks
+    blocks-requires
+    enum-known-offset
+    filtered-requires
+    returns
+    returns-2)

@@ -1,0 +1,2 @@
+// The full check of a table.
+pub mod check;
