@@ -1,0 +1,249 @@
+-- From what a table tells to what a call answers: refusals first, and the key handed over.
+use Prim.Native.Nat.{ℕ, _+_, _-_, _≤_, _<_, _^_}
+use mathlib.Core.Path.{_≡_, refl, sym, _∙_, ap, subst}
+use mathlib.Core.List.{List, [], _∷_, head?}
+use mathlib.Core.Bool.{Bool, true, false, false≢true}
+use mathlib.Core.Option.{Option, none, some}
+use native.Mathlib.Omega.{arith}
+use lib.Dec.{T, leb, leb→le, ltb}
+use lib.ListN.{length, take, drop, length-take, length-drop}
+use lib.Seq.{take-all}
+use borrow.Author.Tests.{le-leb, lt-leb}
+use Rattle.codec.specs.Bytes.{part}
+use Rattle.codec.specs.Put.{put}
+use Rattle.codec.proofs.Prelude.{test, and-r}
+use Rattle.codec.proofs.PutLaws.{put-room}
+use Rattle.keys.specs.Order.{Point}
+use Rattle.block.specs.Formed.{within}
+use Rattle.table.specs.declared.footer.FooterRead.the-variants as FooterCase
+use Rattle.table.specs.Answers.{footerAnswer}
+use Rattle.table.specs.Checked.{Checked, pass, refuse, _>>=_, ask, orRefuse}
+use Rattle.table.specs.Table.{Found, Footer, readBlocks, footer, footerHandles, placed, opened, fullCheck}
+use Rattle.table.specs.Promise.{Passed}
+use Rattle.table.specs.Reads
+use Rattle.table.specs.Reads.{Answer, refused, nothing, found, deleted, pointFits, foundOr, seekSays, lookupSays, stepSays, listed, bufferAfter}
+use Rattle.table.specs.Runs.{overlay}
+use Rattle.table.proofs.FooterLaws.{no-footer, a-footer}
+use Rattle.table.proofs.CheckedLaws.{refuse-pass}
+use Rattle.reader.specs.declared.table_reader.Entry.{Entry}
+use Rattle.reader.specs.declared.table_reader.Found as FoundEnum
+use Rattle.reader.specs.declared.table_reader.Found.the-variants as FoundCase
+use Rattle.reader.specs.declared.table_reader.Sought.{Sought}
+use Rattle.reader.specs.declared.table_reader.Sought.the-variants as SoughtCase
+use Rattle.reader.specs.Answers.{entryOf, soughtOf, lookedOf, Seeks, Looks, Steps}
+use Rattle.reader.specs.Parts.{Indexed, Named, Holds, Tells, IsLater, orThen, OrLater, Is, Short, Kinded, IsKinded}
+use Rattle.reader.proofs.LaterLaws.{apart}
+use Rattle.reader.proofs.FindLaws.{tells-with}
+
+-- ---- an answer, or what comes later
+
+or-same : (a b : Answer) → (soughtOf a ≡ SoughtCase.None → ⊥) → a ≡ orThen a b
+unfolding orThen soughtOf
+or-same (refused n) b h = refl
+or-same nothing b h = absurd (h refl)
+or-same (found x) b h = refl
+or-same (deleted x) b h = refl
+
+is-nothing : (a : Answer) → soughtOf a ≡ SoughtCase.None → a ≡ nothing
+unfolding soughtOf
+is-nothing (refused n) e = apart cc
+is-nothing nothing e = refl
+is-nothing (found x) e = apart cc
+is-nothing (deleted x) e = apart cc
+
+module _ (t : List ℕ) (offset size start : ℕ) {r : Sought} where
+  pub or-kept : {q : Sought} {b : List ℕ} → r ≡ q → (q ≡ SoughtCase.None → ⊥) → (a : Answer) → r ≡ soughtOf a → Holds a b → T (listed t a) → Tells soughtOf t (OrLater t offset size start a) q b
+  or-kept e n a shown holds inside = record { answer = a; shown = sym e ∙ shown; holds = holds; inside = inside; is = λ p s. or-same a _ (λ g. n (sym e ∙ shown ∙ g)) }
+
+  pub or-then : {q : Sought} {b′ : List ℕ} → r ≡ SoughtCase.None → Tells soughtOf t (IsLater t offset size start) q b′ → (a : Answer) → r ≡ soughtOf a → Tells soughtOf t (OrLater t offset size start a) q b′
+  unfolding orThen
+  or-then e w a shown = tells-with (λ c is p s. is p s ∙ ap (λ (x : Answer). orThen x (foundOr (head? (readBlocks t (s .after))))) (sym (is-nothing a (sym shown ∙ e)))) w
+
+pub entry-apart : {e : Entry} → SoughtCase.Entry e ≡ SoughtCase.None → ⊥
+entry-apart h = apart cc
+
+pub refused-apart : {n : ℕ} → SoughtCase.Refused n ≡ SoughtCase.None → ⊥
+refused-apart h = apart cc
+
+-- ---- the key handed over
+
+pub overlay-put : (k x : List ℕ) → length x ≤ length k → put k 0 x ≡ overlay x k
+unfolding overlay
+overlay-put k x h = let n : 0 + length x ≡ length x = omega arith in rw n at (put-room k 0 x (omega arith))
+
+found-key : (a : Answer) {e : Entry} → soughtOf a ≡ SoughtCase.Entry e → (b : List ℕ) → Holds a b → (k : List ℕ) → e .«key_len» ≤ length k → put k 0 (take (e .«key_len») b) ≡ bufferAfter a k
+unfolding soughtOf entryOf bufferAfter
+found-key (refused n) s b h k l = apart cc
+found-key nothing s b h k l = apart cc
+found-key (found x) {e} s b h k l =
+    let n : length (x .key) ≡ e .«key_len» = cc in
+    rw (← n) (ap (put k 0) h ∙ overlay-put k (x .key) (omega arith))
+found-key (deleted x) {e} s b h k l =
+    let n : length (x .key) ≡ e .«key_len» = cc in
+    rw (← n) (ap (put k 0) h ∙ overlay-put k (x .key) (omega arith))
+
+module _ {r : Sought} (k b : List ℕ) where
+  pub hand-entry : {e : Entry} → r ≡ SoughtCase.Entry e → e .«key_len» ≤ length k → {k′ : List ℕ} → k′ ≡ put k 0 (take (e .«key_len») b) → (a : Answer) → r ≡ soughtOf a → Holds a b → k′ ≡ bufferAfter a k
+  hand-entry e l w a shown holds = w ∙ found-key a (sym shown ∙ e) b holds k l
+
+  pub hand-none : r ≡ SoughtCase.None → (a : Answer) → r ≡ soughtOf a → Holds a b → k ≡ bufferAfter a k
+  unfolding bufferAfter
+  hand-none e a shown holds = rw (is-nothing a (sym shown ∙ e))
+
+  pub hand-refused : {n : ℕ} → r ≡ SoughtCase.Refused n → (a : Answer) → r ≡ soughtOf a → Holds a b → k ≡ bufferAfter a k
+  unfolding bufferAfter soughtOf
+  hand-refused {n} e a shown holds = go a (sym shown ∙ e)
+    where
+      go : (a : Answer) → soughtOf a ≡ SoughtCase.Refused n → k ≡ bufferAfter a k
+      go (refused m) s = refl
+      go nothing s = apart cc
+      go (found x) s = apart cc
+      go (deleted x) s = apart cc
+
+pub tells-short : {t : List ℕ} {told : Answer → Type 0} {r : Sought} {b : List ℕ} → Tells soughtOf t told r b → Short r
+unfolding soughtOf entryOf listed
+tells-short {t} {told} {r} w = subst Short (sym (w .shown)) (go (w .answer) (w .inside))
+  where
+    go : (a : Answer) → T (listed t a) → Short (soughtOf a)
+    go (refused n) i = tt
+    go nothing i = tt
+    go (found x) i = leb→le (length (x .key)) 1032 (and-r (leb (x .valueAt + length (x .value)) (length t)) (leb (length (x .key)) 1032) i)
+    go (deleted x) i = leb→le (length (x .key)) 1032 (and-r (leb (x .valueAt + length (x .value)) (length t)) (leb (length (x .key)) 1032) i)
+
+-- ---- 3 and 2
+
+module _ (w : List ℕ) (e : ℕ) where
+  abbrev point : Point
+  point = record { word = w; edition = e }
+
+  pub fits-short : length w < 1 → false ≡ pointFits point
+  unfolding pointFits within
+  fits-short h = rw (lt-leb 1 (length w) h)
+
+  pub fits-long : 1024 < length w → false ≡ pointFits point
+  unfolding pointFits within
+  fits-long h = test (leb 1 (length w)) (λ t. rw (t, lt-leb (length w) 1024 h)) (λ t. rw t)
+
+  pub fits-edition : 1 ≤ length w → length w ≤ 1024 → ltb e (2 ^ 56) ≡ pointFits point
+  unfolding pointFits within
+  fits-edition h l = rw (le-leb 1 (length w) h, le-leb (length w) 1024 l)
+
+-- 3 and 2 of a seek and of a lookup alike
+three : (t : List ℕ) (p : Point) (says : Answer) (k : List ℕ) → pointFits p ≡ false → Reads.Sought t p says k (refused 3) k
+unfolding bufferAfter
+three t p says k e = record { three = λ f. refl; two = λ f l. absurd (false≢true (sym e ∙ f)); table = λ f l. absurd (false≢true (sym e ∙ f)); buffer = refl }
+
+two : (t : List ℕ) (p : Point) (says : Answer) (k : List ℕ) → pointFits p ≡ true → length k < 1032 → Reads.Sought t p says k (refused 2) k
+unfolding bufferAfter
+two t p says k e l = record { three = λ f. absurd (false≢true (sym f ∙ e)); two = λ f l. refl; table = λ f m. absurd (omega arith); buffer = refl }
+
+-- and the table's
+tabled : (t : List ℕ) (p : Point) {says : Answer} {k : List ℕ} {a : Answer} {k′ : List ℕ} → pointFits p ≡ true → 1032 ≤ length k → Reads.Of t says a → k′ ≡ bufferAfter a k → Reads.Sought t p says k a k′
+tabled t p f l of left = record { three = λ g. absurd (false≢true (sym g ∙ f)); two = λ g m. absurd (omega arith); table = λ g m. of; buffer = left }
+
+pub seek-three : (t : List ℕ) (p : Point) (k : List ℕ) → pointFits p ≡ false → Seeks t p k (SoughtCase.Refused 3) k
+unfolding soughtOf
+seek-three t p k e = record { answer = refused 3; shown = refl; is = three t p (seekSays t p) k e }
+
+pub look-three : (t : List ℕ) (p : Point) (k : List ℕ) → pointFits p ≡ false → Looks t p k (FoundCase.Refused 3) k
+unfolding lookedOf
+look-three t p k e = record { answer = refused 3; shown = refl; is = three t p (lookupSays t p) k e }
+
+pub seek-two : (t : List ℕ) (p : Point) (k : List ℕ) → pointFits p ≡ true → length k < 1032 → Seeks t p k (SoughtCase.Refused 2) k
+unfolding soughtOf
+seek-two t p k e l = record { answer = refused 2; shown = refl; is = two t p (seekSays t p) k e l }
+
+pub look-two : (t : List ℕ) (p : Point) (k : List ℕ) → pointFits p ≡ true → length k < 1032 → Looks t p k (FoundCase.Refused 2) k
+unfolding lookedOf
+look-two t p k e l = record { answer = refused 2; shown = refl; is = two t p (lookupSays t p) k e l }
+
+pub step-two : (t : List ℕ) (i at : ℕ) (k : List ℕ) → length k < 1032 → Steps t i at k (SoughtCase.Refused 2) k
+unfolding soughtOf bufferAfter
+step-two t i at k l = record { answer = refused 2; shown = refl; is = record { two = λ l. refl; table = λ m. absurd (omega arith); buffer = refl } }
+
+-- ---- the footer
+
+pub footer-named : (t : List ℕ) {a b c d : ℕ} → footerAnswer (footer t) ≡ FooterCase.Footer a b c d → Named t a b
+footer-named t {a} {b} {c} {d} e = record { foot = record { metaindex = record { offset = a; size = b }; index = record { offset = c; size = d } }; reads = a-footer t e; metaindex = refl }
+
+pub footer-indexed : (t : List ℕ) {a b c d : ℕ} → footerAnswer (footer t) ≡ FooterCase.Footer a b c d → Indexed t c d
+footer-indexed t {a} {b} {c} {d} e = record { foot = record { metaindex = record { offset = a; size = b }; index = record { offset = c; size = d } }; reads = a-footer t e; index = refl }
+
+-- a refusal of the footer is 7 or 8
+abbrev Fair : List ℕ → Checked Footer → Type 0
+Fair t (pass f) = Unit {0}
+Fair t (refuse n) = T (listed t (refused n))
+
+fair-ask : (t : List ℕ) (n : ℕ) (b : Bool) (f : Unit {0} → Checked Footer) → T (listed t (refused n)) → Fair t (f tt) → Fair t (ask n b >>= f)
+unfolding ask _>>=_
+fair-ask t n true f h g = g
+fair-ask t n false f h g = h
+
+fair-get : {A : Type 0} (t : List ℕ) (n : ℕ) (o : Option A) (f : A → Checked Footer) → T (listed t (refused n)) → ((a : A) → Fair t (f a)) → Fair t (orRefuse n o >>= f)
+unfolding orRefuse _>>=_
+fair-get t n none f h g = h
+fair-get t n (some a) f h g = g a
+
+footer-fair : (t : List ℕ) → Fair t (footer t)
+unfolding footer footerHandles placed listed
+footer-fair t =
+    fair-ask t 7 _ _ tt (fair-ask t 7 _ _ tt (fair-ask t 7 _ _ tt (fair-get t 8 _ _ tt (λ m. fair-get t 8 _ _ tt (λ i. fair-ask t 8 _ _ tt (fair-ask t 8 _ _ tt tt))))))
+
+-- a table whose footer is refused does not pass
+not-passed : (t : List ℕ) {n : ℕ} → footer t ≡ refuse n → Passed t → ⊥
+unfolding fullCheck opened _>>=_
+not-passed t {n} e p = refuse-pass {A = Unit {0}} {n = n} {a = tt} (rw e at p)
+
+of-refused : (t : List ℕ) (says : Answer) {n : ℕ} → footer t ≡ refuse n → Reads.Of t says (refused n)
+of-refused t says {n} e =
+    record {
+      footed = λ m f. let x : n ≡ m = cc in ap refused x;
+      passed = λ p. absurd (not-passed t e p);
+      other = subst (Fair t) e (footer-fair t);
+    }
+
+of-answer : (t : List ℕ) {offset size : ℕ} → Indexed t offset size → {says : Answer} (a : Answer) → (Passed t → a ≡ says) → T (listed t a) → Reads.Of t says a
+of-answer t i a is inside = record { footed = λ n f. absurd (refuse-pass (sym f ∙ i .reads)); passed = is; other = inside }
+
+module _ (t : List ℕ) (k : List ℕ) (l : 1032 ≤ length k) where
+  module _ {n : ℕ} (e : footerAnswer (footer t) ≡ FooterCase.Refused n) where
+    pub seek-footed : (p : Point) → pointFits p ≡ true → Seeks t p k (SoughtCase.Refused n) k
+    unfolding soughtOf bufferAfter
+    seek-footed p f = record { answer = refused n; shown = refl; is = tabled t p f l (of-refused t (seekSays t p) (no-footer t e)) refl }
+
+    pub look-footed : (p : Point) → pointFits p ≡ true → Looks t p k (FoundCase.Refused n) k
+    unfolding lookedOf bufferAfter
+    look-footed p f = record { answer = refused n; shown = refl; is = tabled t p f l (of-refused t (lookupSays t p) (no-footer t e)) refl }
+
+    pub step-footed : (i at : ℕ) → Steps t i at k (SoughtCase.Refused n) k
+    unfolding soughtOf bufferAfter
+    step-footed i at = record { answer = refused n; shown = refl; is = record { two = λ m. absurd (omega arith); table = λ m. of-refused t (stepSays t i at) (no-footer t e); buffer = refl } }
+
+  module _ {offset size : ℕ} (i : Indexed t offset size) {r q : Sought} {b k′ : List ℕ} (same : q ≡ r) (handed : (a : Answer) → r ≡ soughtOf a → Holds a b → k′ ≡ bufferAfter a k) where
+    pub seek-found : (p : Point) → pointFits p ≡ true → Tells soughtOf t (Is t (seekSays t p)) r b → Seeks t p k q k′
+    seek-found p f w = record { answer = w .answer; shown = same ∙ w .shown; is = tabled t p f l (of-answer t i (w .answer) (w .is) (w .inside)) (handed (w .answer) (w .shown) (w .holds)) }
+
+    pub look-found : (p : Point) → pointFits p ≡ true → Tells soughtOf t (IsKinded t (lookupSays t p)) r b → {g : FoundEnum.Found} → ((a : Answer) → q ≡ soughtOf a → Holds a b → Kinded a → g ≡ lookedOf a) → Looks t p k g k′
+    look-found p f w kind =
+        record { answer = w .answer; shown = kind (w .answer) (same ∙ w .shown) (w .holds) (w .is .1); is = tabled t p f l (of-answer t i (w .answer) (w .is .0) (w .inside)) (handed (w .answer) (w .shown) (w .holds)) }
+
+    pub step-found : (ix at : ℕ) → Tells soughtOf t (Is t (stepSays t ix at)) r b → Steps t ix at k q k′
+    step-found ix at w =
+        record { answer = w .answer; shown = same ∙ w .shown; is = record { two = λ m. absurd (omega arith); table = λ m. of-answer t i (w .answer) (w .is) (w .inside); buffer = handed (w .answer) (w .shown) (w .holds) } }
+
+-- ---- a value
+
+no-length : (xs : List ℕ) → length xs ≡ 0 → xs ≡ []
+no-length [] e = refl
+no-length (x ∷ xs) e = absurd (omega arith)
+
+module _ (t : List ℕ) (from len : ℕ) where
+  pub value-past : length t < from → take (length t - length t) (drop (length t) t) ≡ part t from len
+  unfolding part
+  value-past h =
+      no-length (take (length t - length t) (drop (length t) t)) (simp (length-take, length-drop) (omega arith))
+      ∙ sym (no-length (take len (drop from t)) (simp (length-take, length-drop) (omega arith)))
+
+  pub value-rest : length t - from < len → take (length t - from) (drop from t) ≡ part t from len
+  unfolding part
+  value-rest l = take-all (length t - from) (drop from t) (omega (arith, length-drop from t)) ∙ sym (take-all len (drop from t) (omega (arith, length-drop from t)))

@@ -1,0 +1,188 @@
+-- What is found in one block, as an answer about the table.
+use Prim.Native.Nat.{ℕ, _+_, _-_, _≤_, _<_, _^_}
+use mathlib.Core.Path.{_≡_, refl, sym, _∙_, ap}
+use mathlib.Core.List.{List, [], _∷_, head?, List·Memᴰ, List·Memᴰ·head, List·Memᴰ·tail}
+use mathlib.Core.Bool.{Bool, true}
+use mathlib.Core.Option.{Option, none, some, Option·some-inj, Option·none-ne-some}
+use native.Mathlib.Omega.{arith}
+use lib.Dec.{T, eqb, leb, leb→le, le→leb}
+use lib.ListN.{length, take, drop}
+use lib.Seq.{length-take-le}
+use borrow.Author.Tests.{le-leb}
+use Rattle.codec.specs.Bytes.{part}
+use Rattle.codec.specs.Maybe.{first}
+use Rattle.codec.specs.Put.{put}
+use Rattle.codec.specs.Varint.{Handle}
+use Rattle.codec.proofs.BytesLaws.{part-length, part-part, part-most, part-between}
+use Rattle.codec.proofs.Lists.{All, Pairs, all-mem, first-yes, first-no}
+use Rattle.codec.proofs.MaybeLaws.{getting, giving}
+use Rattle.codec.proofs.Prelude.{test, and-i, true-is, false-is}
+use Rattle.codec.proofs.PutLaws.{put-front}
+use Rattle.keys.specs.Order.{Point}
+use Rattle.block.specs.declared.block.Found.{Found}
+use Rattle.block.specs.declared.block.Found.the-variants as FoundCase
+use Rattle.block.specs.declared.block.Which.{Which}
+use Rattle.block.specs.declared.block.Which.the-variants as WhichCase
+use Rattle.block.specs.Block.{Pair, Entry}
+use Rattle.block.specs.Search.{readable, reaches, seekIn, firstIn, pick, placeIn, foundAnswer, keyLeft, bufferLeft, inOrder, Said}
+use Rattle.block.proofs.ReadLaws.{StartsBefore, block-starts, ValueIn, block-values}
+use Rattle.table.specs.Table.{endsBefore, contents}
+use Rattle.table.specs.Reads.{Answer, refused, nothing, found, listed}
+use Rattle.table.proofs.StandLaws.{all-entries}
+use Rattle.reader.specs.declared.table_reader.Sought.{Sought}
+use Rattle.reader.specs.Answers.{entryOf, soughtOf}
+use Rattle.reader.specs.Parts.{Inside, Adds, hitOf, sayAt, Says, Tells}
+use Rattle.reader.proofs.PassedLaws.{placed-within}
+
+-- ---- what is said of entries is of one of them
+
+abbrev pub Picks : (List Entry → Option (Option Entry)) → Type 0
+Picks says = (es : List Entry) (e : Entry) → says es ≡ some (some e) → List·Memᴰ e es
+
+some-in : {A : Type 0} {x y : A} → some x ≡ some y → x ≡ y
+some-in e = Option·some-inj .0 e
+
+first-mem : {A : Type 0} (f : A → Bool) (xs : List A) (x : A) → first f xs ≡ some x → List·Memᴰ x xs
+unfolding first
+first-mem f [] x e = absurd (Option·none-ne-some x e)
+first-mem f (y ∷ ys) x e =
+    test (f y)
+    (λ t. List·Memᴰ·head (some-in (sym e ∙ first-yes f y ys (true-is t))))
+    (λ t. List·Memᴰ·tail (first-mem f ys x (sym (first-no f y ys (false-is t)) ∙ e)))
+
+pub picks-seek : (p : Point) → Picks (seekIn p)
+unfolding seekIn
+picks-seek p es e h = first-mem (reaches p) es e (some-in h)
+
+head-mem : {A : Type 0} (ys : List A) {x : A} → head? ys ≡ some x → List·Memᴰ x ys
+head-mem [] h = absurd (Option·none-ne-some _ h)
+head-mem (y ∷ ys) h = List·Memᴰ·head (some-in (sym h))
+
+pub picks-first : Picks firstIn
+unfolding firstIn
+picks-first es e h = head-mem es (some-in h)
+
+picked : (which : Which) (x : Entry) (xs : List Entry) {e : Entry} → pick which x xs ≡ some e → List·Memᴰ e (x ∷ xs)
+unfolding pick
+picked WhichCase.Here x xs h = List·Memᴰ·head (some-in (sym h))
+picked WhichCase.After x xs h = List·Memᴰ·tail (head-mem xs h)
+
+pub picks-place : (which : Which) (at : ℕ) → Picks (placeIn which at)
+unfolding placeIn
+picks-place which at [] e h = absurd (Option·none-ne-some (some e) h)
+picks-place which at (x ∷ xs) e h =
+    test (eqb (x .start) at)
+    (λ t. picked which x xs (some-in (rw (t, placeIn) at h)))
+    (λ t. List·Memᴰ·tail (picks-place which at xs e (rw (t, placeIn) at h)))
+
+-- ---- the answer
+
+-- by what was found, and the key at the front of the buffer
+unfoldable pub answerOf : List ℕ → ℕ → ℕ → Found → List ℕ → Answer
+answerOf t index offset (FoundCase.Entry start n at v) b =
+    found (record { indexStart = index; start = start; key = take n b; valueAt = offset + at; value = part t (offset + at) v })
+answerOf t index offset FoundCase.None b = nothing
+answerOf t index offset FoundCase.NoPlace b = refused 14
+answerOf t index offset FoundCase.Bad b = refused 10
+
+module _ (t : List ℕ) (h : Handle) (index : ℕ) (placed : endsBefore (length t) (h .offset) (h .size) ≡ true) where
+  -- its numbers are those that the code gives, and its value lies in the table
+  pub hit-tells : {says : List Entry → Option (Option Entry)} {ordered : List Entry → Bool} {k : List ℕ} {f : Found} {k′ : List ℕ}
+      → Said (contents t h) says ordered k f k′ → length k′ ≡ 1032 → Tells soughtOf t (λ a. a ≡ answerOf t index (h .offset) f k′) (hitOf index (h .offset) f) k′
+  unfolding contents answerOf hitOf soughtOf entryOf listed
+  hit-tells {k = k} {f = f} {k′ = k′} s long = go f (s .inside)
+    where
+      room : h .offset + h .size + 53 ≤ length t
+      room = placed-within (length t) (h .offset) (h .size) placed
+
+      go : (f : Found) → Rattle.block.specs.Search.Inside (contents t h) k f k′ → Tells soughtOf t (λ a. a ≡ answerOf t index (h .offset) f k′) (hitOf index (h .offset) f) k′
+      go (FoundCase.Entry start n at v) i =
+          let most : length (contents t h) ≤ h .size = part-most t (h .offset) (h .size) in
+          let here : h .offset + at + v ≤ length t = omega (arith, i .0, room) in
+          let key-long : length (take n k′) ≡ n = length-take-le n k′ (omega (arith, i .1)) in
+          let value-long : length (part t (h .offset + at) v) ≡ v = part-length t (h .offset + at) v here in
+          let value-in : h .offset + at + length (part t (h .offset + at) v) ≤ length t = rw value-long here in
+          let key-in : length (take n k′) ≤ 1032 = rw key-long (i .1) in
+          record {
+            answer = answerOf t index (h .offset) (FoundCase.Entry start n at v) k′;
+            shown = rw (key-long, value-long) refl;
+            holds = ap (λ (m : ℕ). take m k′) key-long;
+            inside = and-i (leb (h .offset + at + length (part t (h .offset + at) v)) (length t)) (leb (length (take n k′)) 1032) (le→leb _ _ value-in) (le→leb _ _ key-in);
+            is = refl;
+          }
+      go FoundCase.None i = record { answer = nothing; shown = refl; holds = tt; inside = tt; is = refl }
+      go FoundCase.NoPlace i = record { answer = refused 14; shown = refl; holds = tt; inside = tt; is = refl }
+      go FoundCase.Bad i = record { answer = refused 10; shown = refl; holds = tt; inside = tt; is = refl }
+
+pub record Readable (s : List ℕ) (es : List Entry) : Type 0 where
+  pub values : All (ValueIn s) es
+  pub short : All (λ (e : Entry). T (leb (length (e .key)) 1032)) es
+  pub starts : Pairs StartsBefore es
+
+pub readable-tells : (s : List ℕ) {es : List Entry} → readable s ≡ some es → Readable s es
+unfolding readable
+readable-tells s p =
+    getting _ _ p λ b read p.
+    giving _ _ p λ short p.
+    let r : Readable s (b .entries) = record { values = block-values s read; short = all-entries (λ (p : Pair). leb (length (p .key)) 1032) (b .entries) short; starts = block-starts s read } in
+    rw (some-in p) at r
+
+-- a buffer of 1,032 bytes has room for each key
+pub room : (k : List ℕ) (x : Entry) → length k ≡ 1032 → T (leb (length (x .key)) 1032) → leb (length (x .key)) (length k) ≡ true
+room k x long t = le-leb (length (x .key)) (length k) (omega (arith, leb→le (length (x .key)) 1032 t))
+
+-- the key and the value of an entry, as they stand in the buffer and in the table
+key-is : (k : List ℕ) (x : Entry) → length k ≡ 1032 → T (leb (length (x .key)) 1032) → take (length (x .key)) (put k 0 (x .key)) ≡ x .key
+key-is k x long t =
+    let n : 0 + length (x .key) ≡ length (x .key) = omega arith in
+    rw n at (put-front k 0 (x .key) (omega (arith, leb→le (length (x .key)) 1032 t)))
+
+value-is : (t : List ℕ) (h : Handle) (x : Entry) → ValueIn (contents t h) x → part t (h .offset + x .valueAt) (length (x .value)) ≡ x .value
+unfolding contents
+value-is t h x v = sym (v .is ∙ part-part t (h .offset) (h .size) (x .valueAt) (length (x .value)) (omega (arith, v .ends, part-most t (h .offset) (h .size))))
+
+module _ (t : List ℕ) (h : Handle) (index : ℕ) where
+  pub hit-is : {says : List Entry → Option (Option Entry)} {ordered : List Entry → Bool} {k : List ℕ} {f : Found} {k′ : List ℕ} → Picks says
+      → Said (contents t h) says ordered k f k′ → length k ≡ 1032 → (es : List Entry) → readable (contents t h) ≡ some es → ordered es ≡ true
+      → answerOf t index (h .offset) f k′ ≡ sayAt index (h .offset) (says es)
+  unfolding answerOf sayAt foundAnswer bufferLeft keyLeft
+  hit-is {says} {ordered} {k} {f} {k′} picks s long es read order =
+      rw (s .answer es read order, s .buffer es read order) (go (says es) refl)
+    where
+      go : (o : Option (Option Entry)) → says es ≡ o → answerOf t index (h .offset) (foundAnswer (length k) o) (bufferLeft k o) ≡ sayAt index (h .offset) o
+      go none e = refl
+      go (some none) e = refl
+      go (some (some x)) e =
+          let r = readable-tells (contents t h) read in
+          let m = picks es x e in
+          rw (room k x long (all-mem (r .short) m), foundAnswer, key-is k x long (all-mem (r .short) m), value-is t h x (all-mem (r .values) m)) refl
+
+  -- what was found in the block, of a kind of search on it
+  pub hit-says : {says : List Entry → Option (Option Entry)} {k : List ℕ} {f : Found} {k′ : List ℕ} → Picks says → endsBefore (length t) (h .offset) (h .size) ≡ true
+      → Said (contents t h) says inOrder k f k′ → length k ≡ 1032 → length k′ ≡ 1032 → {r : Sought} → r ≡ hitOf index (h .offset) f → Tells soughtOf t (Says t index (h .offset) (h .size) says) r k′
+  unfolding contents
+  hit-says {says} {k} {f} {k′} picks placed s long long′ is =
+      let w = hit-tells t h index placed s long′ in
+      record { answer = w .answer; shown = is ∙ w .shown; holds = w .holds; inside = w .inside; is = λ es read order. w .is ∙ hit-is picks s long es read order }
+
+-- ---- what the parts of a read ask for
+
+module _ {s : List ℕ} {says : List Entry → Option (Option Entry)} {ordered : List Entry → Bool} {k : List ℕ} {k′ : List ℕ} where
+  pub said-inside : (f : Found) → Said s says ordered k f k′ → Inside (length s) f
+  said-inside (FoundCase.Entry start n at v) w = w .inside .0
+  said-inside FoundCase.None w = tt
+  said-inside FoundCase.NoPlace w = tt
+  said-inside FoundCase.Bad w = tt
+
+  pub said-adds : (t : List ℕ) (h : Handle) (f : Found) → Said s says ordered k f k′ → s ≡ contents t h → endsBefore (length t) (h .offset) (h .size) ≡ true → length t < 2 ^ 64 → Adds (h .offset) f
+  unfolding contents
+  said-adds t h (FoundCase.Entry start n at v) w e placed big =
+      omega (arith, w .inside .0, placed-within (length t) (h .offset) (h .size) placed, ap length e, part-most t (h .offset) (h .size))
+  said-adds t h FoundCase.None w e placed big = tt
+  said-adds t h FoundCase.NoPlace w e placed big = tt
+  said-adds t h FoundCase.Bad w e placed big = tt
+
+-- a block as code hands it on
+pub contents-is : (t : List ℕ) (offset size : ℕ) → take (offset + size - offset) (drop offset t) ≡ contents t (record { offset = offset; size = size })
+unfolding contents
+contents-is t offset size = part-between t offset size

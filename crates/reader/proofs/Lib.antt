@@ -1,0 +1,10 @@
+pub mod PassedLaws
+pub mod HitLaws
+pub mod LocateLaws
+pub mod LaterLaws
+pub mod FindLaws
+pub mod FollowLaws
+pub mod CallLaws
+pub mod LookLaws
+pub mod TourLaws
+pub mod LeastLaws

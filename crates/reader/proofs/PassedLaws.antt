@@ -1,0 +1,169 @@
+-- Of a passed table: its index and every block that the index names can be read, in order, at places within the table.
+use Prim.Native.Nat.{ℕ, _+_, _-_, _≤_}
+use mathlib.Core.Path.{_≡_, refl, sym, _∙_, ap}
+use mathlib.Core.List.{List, [], _∷_}
+use mathlib.Core.Bool.{true}
+use mathlib.Core.Option.{Option, none, some}
+use native.Mathlib.Omega.{arith}
+use lib.Dec.{T}
+use lib.ListN.{length}
+use borrow.Author.Tests.{leb-true}
+use Rattle.codec.specs.Varint.{Handle, oneHandle}
+use Rattle.codec.proofs.Prelude.{is-true, and-r}
+use Rattle.codec.proofs.Lists.{All, all-imp}
+use Rattle.block.specs.Block.{Pair, Entry, pairsOf}
+use Rattle.block.specs.Formed.{dataBlock, indexBlock, within, isHandle, entryFits, all}
+use Rattle.block.specs.Search.{readable, inOrder}
+use Rattle.block.proofs.FormedLaws.{asPair, formed-read, formed-readable}
+use Rattle.table.specs.Checked.{pass}
+use Rattle.table.specs.Table.{Footer, footer, footerHandles, endsBefore, placed, contents, sealed, blockOf, indexOf, handleOf, entriesAt, dataBlockOf, dataBlocksOf, Edge, Opened, opened, fullCheck}
+use Rattle.table.specs.Promise.{Passed}
+use Rattle.table.proofs.CheckedLaws.{passing, asking, pass-same, orRefuse-pass}
+use Rattle.table.proofs.StandLaws.{all-entries, block-of, index-read, Laid, laid, stands}
+use Rattle.reader.specs.Parts.{Indexed, Named}
+
+-- ---- where a block may stand
+
+pub placed-within : (len offset size : ℕ) → endsBefore len offset size ≡ true → offset + size + 53 ≤ len
+unfolding endsBefore
+placed-within len offset size e = omega (arith, leb-true (offset + size + 5) (len - 48) e)
+
+-- ---- an index entry and its block
+
+pub record BlockReads (t : List ℕ) (ix : Entry) : Type 0 where
+  pub one : oneHandle (ix .value) ≡ some (handleOf (ix .value))
+  pub placed : endsBefore (length t) (handleOf (ix .value) .offset) (handleOf (ix .value) .size) ≡ true
+  pub reads : readable (contents t (handleOf (ix .value))) ≡ some (entriesAt t (handleOf (ix .value)))
+  pub order : inOrder (entriesAt t (handleOf (ix .value))) ≡ true
+  pub fits : T (all (entryFits dataBlock) (pairsOf (entriesAt t (handleOf (ix .value)))))
+
+one-handle : (s : List ℕ) → T (isHandle s) → oneHandle s ≡ some (handleOf s)
+unfolding isHandle handleOf
+one-handle s = go (oneHandle s) refl
+  where
+    go : (o : Option Handle) → oneHandle s ≡ o → T (isHandle s) → oneHandle s ≡ some (handleOf s)
+    go none e t = absurd (rw (e, isHandle) at t)
+    go (some h) e t = rw (e, handleOf) refl
+
+-- what the check of one data block tells
+record Tested (t : List ℕ) (h : Handle) : Type 0 where
+  inside : endsBefore (length t) (h .offset) (h .size) ≡ true
+  reads : readable (contents t h) ≡ some (entriesAt t h)
+  order : inOrder (entriesAt t h) ≡ true
+  fits : T (all (entryFits dataBlock) (pairsOf (entriesAt t h)))
+
+block-tested : (t : List ℕ) (f : Option (List ℕ)) (before : Option Edge) (ix : Pair) {ps : List Pair} → dataBlockOf t f before ix ≡ pass ps → Tested t (handleOf (ix .value))
+unfolding dataBlockOf placed sealed blockOf inOrder
+block-tested t f before ix {ps} p =
+    asking _ _ _ p λ inside p.
+    asking _ _ _ p λ intact p.
+    passing _ _ p λ es read p.
+    asking _ _ _ p λ follows p.
+    asking _ _ _ p λ rising p.
+    let h = handleOf (ix .value) in
+    let same : entriesAt t h ≡ es = block-of t h dataBlock read .0 in
+    record {
+      inside = is-true _ inside;
+      reads = rw same (formed-readable dataBlock (contents t h) (orRefuse-pass 10 _ read));
+      order = is-true _ (rw same rising);
+      fits = rw same (formed-read dataBlock (contents t h) (orRefuse-pass 10 _ read) .fits);
+    }
+
+blocks-tested : (t : List ℕ) (f : Option (List ℕ)) (before : Option Edge) (ixs : List Entry) → dataBlocksOf t f before (pairsOf ixs) ≡ pass tt → All (λ (ix : Entry). Tested t (handleOf (ix .value))) ixs
+unfolding dataBlocksOf
+blocks-tested t f before [] p = All.nil
+blocks-tested t f before (ix ∷ ixs) p =
+    passing _ _ p λ ps read p.
+    All.cons (block-tested t f before (asPair ix) read) (blocks-tested t f _ ixs p)
+
+-- ---- the index
+
+pub record Opens (t : List ℕ) (h : Handle) : Type 0 where
+  pub table : Opened
+  pub opens : opened t ≡ pass table
+  pub reads : readable (contents t h) ≡ some (table .index)
+  pub order : inOrder (table .index) ≡ true
+  pub same : entriesAt t h ≡ table .index
+  pub blocks : All (BlockReads t) (table .index)
+  pub laid : Laid t (table .filter) (table .index)
+
+-- what the check of the index tells
+record IndexRead (t : List ℕ) (h : Handle) (es : List Entry) : Type 0 where
+  reads : readable (contents t h) ≡ some es
+  order : inOrder es ≡ true
+  handles : All (λ (ix : Entry). oneHandle (ix .value) ≡ some (handleOf (ix .value))) es
+
+index-tested : (t : List ℕ) (h : Handle) {es : List Entry} → indexOf t h ≡ pass es → IndexRead t h es
+unfolding indexOf sealed blockOf inOrder entryFits
+index-tested t h {es} p =
+    asking _ _ _ p λ intact p.
+    passing _ _ p λ c read p.
+    asking _ _ _ p λ order p.
+    let formed = orRefuse-pass 10 _ read in
+    let fits = formed-read indexBlock (contents t h) formed .fits in
+    let r : IndexRead t h c = record {
+      reads = formed-readable indexBlock (contents t h) formed;
+      order = is-true _ order;
+      handles = all-imp (λ ix u. one-handle (ix .value) (and-r (within 9 1032 (length (ix .key))) _ u)) (all-entries (entryFits indexBlock) c fits);
+    } in
+    rw (pass-same p) at r
+
+all-both : {A : Type 0} {P Q R : A → Type 0} {xs : List A} → ((x : A) → P x → Q x → R x) → All P xs → All Q xs → All R xs
+all-both f All.nil All.nil = All.nil
+all-both f (All.cons {x = x} p ps) (All.cons q qs) = All.cons (f x p q) (all-both f ps qs)
+
+pub passed-opens : (t : List ℕ) {offset size : ℕ} → Indexed t offset size → Passed t → Opens t (record { offset = offset; size = size })
+unfolding fullCheck opened
+passed-opens t {offset} {size} i p =
+    passing _ _ p λ o op q.
+    passing _ _ op λ ft foot r.
+    passing _ _ r λ ms meta r.
+    passing _ _ r λ ixs index r.
+    passing _ _ r λ f filter r.
+    let o-is = pass-same r in
+    let ixs-is : ixs ≡ o .index = ap (λ (x : Opened). x .index) o-is in
+    let h-is : ft .index ≡ record { offset = offset; size = size } = ap (λ (x : Footer). x .index) (pass-same (sym foot ∙ i .reads)) ∙ i .index in
+    let ir = index-tested t (ft .index) index in
+    let ts = blocks-tested t (o .filter) none (o .index) q in
+    record {
+      table = o;
+      opens = op;
+      reads = rw (← h-is, ← ixs-is) (ir .reads);
+      order = rw (← ixs-is) (ir .order);
+      same = rw (← h-is) (index-read t (ft .index) index ∙ ixs-is);
+      blocks = all-both (λ ix one u. record { one = one; placed = u .inside; reads = u .reads; order = u .order; fits = u .fits }) (rw (← ixs-is) (ir .handles)) ts;
+      laid = laid (stands t o p op);
+    }
+
+-- a passed table has a footer
+pub passed-indexed : (t : List ℕ) → Passed t → (f : Footer) × Indexed t (f .index .offset) (f .index .size)
+unfolding fullCheck opened
+passed-indexed t p =
+    passing _ _ p λ o op q.
+    passing _ _ op λ ft foot r.
+    (ft, record { foot = ft; reads = foot; index = refl })
+
+-- ---- the footer's blocks lie before it
+
+record Both (t : List ℕ) (f : Footer) : Type 0 where
+  metaindex : endsBefore (length t) (f .metaindex .offset) (f .metaindex .size) ≡ true
+  index : endsBefore (length t) (f .index .offset) (f .index .size) ≡ true
+
+both-placed : (t : List ℕ) {f : Footer} → footer t ≡ pass f → Both t f
+unfolding footer footerHandles placed
+both-placed t {f} p =
+    asking _ _ _ p λ long p.
+    asking _ _ _ p λ limited p.
+    asking _ _ _ p λ magic p.
+    passing _ _ p λ m read p.
+    passing _ _ p λ n read p.
+    asking _ _ _ p λ first p.
+    asking _ _ _ p λ second p.
+    let both : Both t (record { metaindex = m .handle; index = n .handle }) = record { metaindex = is-true _ first; index = is-true _ second } in
+    rw (pass-same p) at both
+
+pub indexed-placed : (t : List ℕ) {offset size : ℕ} → Indexed t offset size → endsBefore (length t) offset size ≡ true
+indexed-placed t i = rw (i .index) at (both-placed t (i .reads) .index)
+
+pub named-placed : (t : List ℕ) {offset size : ℕ} → Named t offset size → endsBefore (length t) offset size ≡ true
+named-placed t n = rw (n .metaindex) at (both-placed t (n .reads) .metaindex)

@@ -1,0 +1,63 @@
+-- `reader::table_reader::value` meets its contract.
+use Rattle.codec.proofs.BytesLaws.{part-between}
+use Rattle.reader.proofs.CallLaws.{value-past, value-rest}
+use borrow.Author.Needs.{needs}
+use Rattle.reader.proofs.table_reader.value.Statement.{statement}
+use Rattle.reader.proofs.table_reader.value.Tie as tie
+
+sub-result : tie.Need-sub-result
+sub-result c = search needs
+
+part-result-start : tie.Need-part-result-start
+part-result-start c = search needs
+
+part-result-end : tie.Need-part-result-end
+part-result-end c = search needs
+
+returns : tie.Need-returns
+returns c = value-past _ _ _ (c .before .if1 .taken)
+
+sub-result-2 : tie.Need-sub-result-2
+sub-result-2 c = search needs
+
+part-result-start-2 : tie.Need-part-result-start-2
+part-result-start-2 c = search needs
+
+part-result-end-2 : tie.Need-part-result-end-2
+part-result-end-2 c = search needs
+
+returns-2 : tie.Need-returns-2
+returns-2 c = value-rest _ _ _ (c .before .if2 .taken)
+
+add-to : tie.Need-add-to
+add-to c = search needs
+
+sub-result-3 : tie.Need-sub-result-3
+sub-result-3 c = search needs
+
+part-result-start-3 : tie.Need-part-result-start-3
+part-result-start-3 c = search needs
+
+part-result-end-3 : tie.Need-part-result-end-3
+part-result-end-3 c = search needs
+
+returns-3 : tie.Need-returns-3
+returns-3 c = part-between _ _ _
+
+pub value-spec : {M : Type 1} → statement M
+value-spec =
+    tie.close
+    (tie.spec
+    sub-result
+    part-result-start
+    part-result-end
+    returns
+    sub-result-2
+    part-result-start-2
+    part-result-end-2
+    returns-2
+    add-to
+    sub-result-3
+    part-result-start-3
+    part-result-end-3
+    returns-3)
