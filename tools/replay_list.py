@@ -151,10 +151,15 @@ def read_varint(s):
             return (value, i + 1) if value < 2 ** 64 else None
     return None
 
-def one_handle(s):
+def read_handle(s):
+    """Offset, size, and how many bytes the two have."""
     a = read_varint(s)
     b = a and read_varint(s[a[1]:])
-    return bool(b) and a[1] + b[1] == len(s)
+    return (a[0], b[0], a[1] + b[1]) if b else None
+
+def one_handle(s):
+    h = read_handle(s)
+    return h is not None and h[2] == len(s)
 
 def build(interval, pairs, room=65536, marks=2048):
     """The block of the pairs that fit runs of such lengths, or None where its end does not fit, and which pairs did not."""
@@ -237,6 +242,108 @@ def formed(kind, s):
         if kind == 'metaindex' and key == BLOOM and not one_handle(value):
             return False
     return True
+
+MAGIC = bytes.fromhex('57fb808b247547db')
+
+def sealed(s, kind=b'\0'):
+    """A block and what follows it."""
+    c = crc(s + kind)
+    return s + kind + struct.pack('<I', ((c >> 15 | c << 17 & 0xffffffff) + 0xa282ead8) & 0xffffffff)
+
+class Refusal(Exception):
+    pass
+
+def demand(number, holds):
+    if not holds:
+        raise Refusal(number)
+
+def placed(t, h):
+    return h[0] + h[1] + 5 <= len(t) - 48
+
+def contents(t, h):
+    return t[h[0]:h[0] + h[1]]
+
+def stands(t, h):
+    return t[h[0]:h[0] + h[1] + 5] == sealed(contents(t, h))
+
+def footer_handles(t):
+    """Of the metaindex and of the index."""
+    demand(7, 48 <= len(t) <= 16777216 and t[-8:] == MAGIC)
+    s, hs = t[-48:-8], []
+    for _ in range(2):
+        h = read_handle(s)
+        demand(8, h is not None)
+        hs.append(h[:2])
+        s = s[h[2]:]
+    demand(8, all(placed(t, h) for h in hs))
+    return hs
+
+def block_of(t, h, kind):
+    s = contents(t, h)
+    demand(9, stands(t, h))
+    demand(10, formed(kind, s))
+    return entries(s)
+
+def below(a, b):
+    return order_points(point(a), point(b)) < 0
+
+def rising(keys, less):
+    return all(less(a, b) for a, b in zip(keys, keys[1:]))
+
+def full_check(t):
+    """The number of the refusal, or None."""
+    try:
+        meta, index = footer_handles(t)
+        names = {}
+        es = block_of(t, meta, 'metaindex')
+        demand(11, rising([e[2] for e in es], lambda a, b: a < b))
+        for e in es:
+            names[e[2]] = contents(t, (meta[0] + e[3], e[4]))
+        ixs = block_of(t, index, 'index')
+        demand(11, rising([e[2] for e in ixs], below))
+        bloom = None
+        if BLOOM in names:
+            h = read_handle(names[BLOOM])
+            demand(8, placed(t, h))
+            bloom = contents(t, h)
+            demand(9, stands(t, h))
+            demand(12, filter_formed(bloom))
+        before = None
+        for ix in ixs:
+            h = read_handle(contents(t, (index[0] + ix[3], ix[4])))
+            demand(8, placed(t, h))
+            keys = [e[2] for e in block_of(t, h, 'data')]
+            demand(11, rising(keys, below))
+            demand(11, not below(ix[2], keys[-1]))
+            if before:
+                bound, last = before
+                demand(11, below(last, keys[0]) and below(bound, keys[0]))
+                demand(11, point(bound) == point(last) or point(bound)[0] < point(keys[0])[0])
+            demand(12, bloom is None or all(block_may(bloom, h[0], bloom_hash(point(k)[0])) for k in keys))
+            before = ix[2], keys[-1]
+    except Refusal as r:
+        return r.args[0]
+    return None
+
+def plain_reading(t):
+    """All entries of a table: both numbers of the place, the key, where the value starts, the value."""
+    index, found = footer_handles(t)[1], []
+    for ix in entries(contents(t, index)):
+        h = read_handle(contents(t, (index[0] + ix[3], ix[4])))
+        for e in entries(contents(t, h)):
+            found.append((ix[0], e[0], e[2], h[0] + e[3], contents(t, (h[0] + e[3], e[4]))))
+    return found
+
+def shown_entry(e):
+    return '%d %d %s at %d %s' % (e[0], e[1], shown(e[2]), e[3], shown(e[4]))
+
+def newest_of(found, word, edition):
+    """What a lookup answers."""
+    versions = [e for e in found if point(e[2])[0] == word and point(e[2])[1] <= edition]
+    if not versions:
+        return 'absent'
+    newest = max(versions, key=lambda e: point(e[2])[1])
+    return ('deleted ' if newest[2][-8] == 0 else '') + shown_entry(newest)
 
 # ---- the list
 
@@ -434,6 +541,143 @@ def entry_read(rest, key, n=None):
         _, shared, k, v, size = e
         case('E', field(rest), field(key), n, say='%d %d at %d %s %s' % (shared, len(k), v, shown(rest[v:v + size]), shown(k + run[len(k):])))
 
+def tried(t, word, edition):
+    """The verdict on a table, and what a lookup answers if it passes."""
+    no = full_check(t)
+    return str(no) if no else 'pass ' + newest_of(plain_reading(t), word, edition)
+
+class Whole:
+    """The table that the following commands read."""
+    loaded = None
+
+    def __init__(self, t, want='any'):
+        self.t, self.no, self.foot = t, full_check(t), None
+        assert want == 'any' or want == self.no, (want, self.no, t.hex())
+        try:
+            footer_handles(t)
+        except Refusal as r:
+            self.foot = r.args[0]
+        self.all = plain_reading(t) if self.no is None else []
+        self.load()
+        case('V', say=str(self.no or 'pass'))
+
+    def load(self):
+        """Loads the table, or changes the bytes that differ from what is loaded, whichever is shorter."""
+        old, new = Whole.loaded, self.t
+        Whole.loaded = new
+        whole = 'L ' + field(new)
+        if old is not None and len(old) == len(new):
+            runs, i = [], 0
+            while i < len(new):
+                if old[i] != new[i]:
+                    end = i + 1
+                    while old[end:end + 6] != new[end:end + 6]:
+                        end += 1
+                    runs.append((i, new[i:end]))
+                    i = end
+                i += 1
+            if sum(len(field(s)) + 8 for _, s in runs) < len(whole):
+                for at, s in runs:
+                    case('Z', at, field(s), say='')
+                return
+        case('L', field(new), say=str(len(new)))
+
+    def first_refusal(self, target, room):
+        """What a read answers before the table's entries are asked."""
+        if target and not (1 <= len(target[0]) <= 1024 and target[1] < 2 ** 56):
+            return '3'
+        if room < 1032:
+            return '2'
+        assert self.foot or self.no is None
+        return self.foot and str(self.foot)
+
+    def seek(self, word, edition, room=1032):
+        say = self.first_refusal((word, edition), room)
+        if not say:
+            rest = [e for e in self.all if order_points(point(e[2]), (word, edition)) >= 0]
+            say = shown_entry(rest[0]) if rest else 'none'
+        case('J', field(word), edition, room, say=say)
+        return self
+
+    def lookup(self, word, edition, room=1032):
+        say = self.first_refusal((word, edition), room)
+        if not say:
+            say = newest_of(self.all, word, edition)
+        case('Q', field(word), edition, room, say=say)
+        return self
+
+    def step(self, index, start, room=1032):
+        say = self.first_refusal(None, room)
+        if not say:
+            places = [e[:2] for e in self.all]
+            if (index, start) not in places:
+                say = '14'
+            else:
+                rest = self.all[places.index((index, start)) + 1:]
+                say = shown_entry(rest[0]) if rest else 'none'
+        case('P', index, start, room, say=say)
+        return self
+
+    def walk(self):
+        assert self.no is None
+        case('U', say=' '.join([shown_entry(e) for e in self.all[:6]] + ['of %d' % len(self.all)]))
+        return self
+
+    def any(self, word=b'b', edition=5, index=0, start=0):
+        """Reads: on a refused table with a footer they end, and answer something that is allowed."""
+        if self.no is None or self.foot:
+            return self.seek(word, edition).lookup(word, edition).step(index, start)
+        case('I', field(word), edition, index, start, say='allowed')
+        return self
+
+    def ask(self, words, editions=(0, 5, 2 ** 56 - 1)):
+        for w in words:
+            for s in editions:
+                if self.no is None or self.foot:
+                    self.seek(w, s).lookup(w, s)
+                else:
+                    self.any(w, s)
+        return self
+
+    def steps(self):
+        """From each entry, and from places next to them."""
+        near = {(0, 0), (0, 1), (1, 0), (2 ** 56, 0), (0, 2 ** 56), (len(self.t), len(self.t))}
+        for ix, at, _, _, _ in self.all:
+            near |= {(ix, at), (ix, at + 1), (ix + 1, at), (0, at), (at, ix)}
+        for ix, at in sorted(near):
+            self.step(ix, at)
+        return self
+
+    def each_byte(self, bits, word, edition):
+        """With every byte changed in turn; what is read there is allowed."""
+        copies = [self.t[:i] + bytes([x ^ bits]) + self.t[i + 1:] for i, x in enumerate(self.t)]
+        case('X', bits, field(word), edition, say=' '.join(tried(s, word, edition) for s in copies))
+        return self
+
+    def each_sealed(self, h, bits, word, edition):
+        """With every byte of a block changed in turn and the block sealed anew."""
+        at, size = h[:2]
+        block = contents(self.t, h)
+        copies = [sealed(block[:i] + bytes([x ^ bits]) + block[i + 1:]) for i, x in enumerate(block)]
+        case('R', at, size, bits, field(word), edition, say=' '.join(tried(self.t[:at] + s + self.t[at + size + 5:], word, edition) for s in copies))
+        return self
+
+    def each_length(self, word, edition):
+        case('Y', field(word), edition, say=' '.join(tried(self.t[:n], word, edition) for n in range(len(self.t))))
+        return self
+
+    def spoiled(self, word, edition, all_bits):
+        """Every byte changed, in each block with its seal made anew, and every shorter length."""
+        for bits in all_bits:
+            self.each_byte(bits, word, edition)
+        meta, index = footer_handles(self.t)
+        named = [read_handle(contents(self.t, (index[0] + e[3], e[4]))) for e in entries(contents(self.t, index))]
+        named += [read_handle(contents(self.t, (meta[0] + e[3], e[4]))) for e in entries(contents(self.t, meta)) if e[4]]
+        for h in named + [meta, index]:
+            for bits in all_bits:
+                self.each_sealed(h, bits, word, edition)
+        return self.each_length(word, edition)
+
 # ---- keys
 words = [b'', b'\0', b'\0\0', b'a', b'ab', b'abc', b'abc\0', b'abcdefg', b'abcdefgh', b'abcdefgi', b'abcdefghi', b'abcdefgh\xff', b'abcdefghijklmnop', b'abcdefghijklmnoq',
          b'abcdefghijkllnop', b'b', b'\xff', b'\xff\xff', b'\xff' * 8, b'\xff' * 9, b'\x80' + b'z' * 15, b'\x7f' + b'z' * 15]
@@ -492,7 +736,8 @@ for bits in (0, 1, 2, 6, 9, 10, 11, 43, 44, 64):
 many = [b'%d' % i for i in range(300)]
 for bits in (1, 10, 64):
     f = filtered(bits, many)
-    for w in many[::60] + [b'no', b'none', b'nothing', b'300', b'301']:
+    asked_words = many[::60] + [b'no', b'none', b'nothing', b'300', b'301']
+    for w in asked_words[::3] if bits == 64 else asked_words:
         may(f, w)
 ten = make_filter(10, [bloom_hash(w) for w in some])
 for k in (0, 1, 29, 30, 31, 255):
@@ -757,7 +1002,317 @@ for i in range(len(rest)):
     for bits in (0x01, 0x80, 0xff):
         entry_read(rest[:i] + bytes([rest[i] ^ bits]) + rest[i + 1:], k)
 
+# ---- tables
+last_edition = 2 ** 56 - 1
+
+class Layout:
+    """A table put together block by block."""
+    def __init__(self):
+        self.out = b''
+
+    def put(self, s, stands=True):
+        """Where the block then stands."""
+        at = len(self.out)
+        self.out += sealed(s)
+        if not stands:
+            self.out = self.out[:-1] + bytes([self.out[-1] ^ 1])
+        return at, len(s)
+
+    def table(self, meta, index, foot=None):
+        foot = handle(*meta) + handle(*index) if foot is None else foot
+        return self.out + foot + b'\0' * (40 - len(foot)) + MAGIC
+
+def write_table(interval, block_size, bits, pairs):
+    """The table as it is built."""
+    out, index, group, pending, starts, filters = Layout(), [], [], [], [], []
+
+    def make():
+        starts.append(sum(map(len, filters)))
+        filters.append(make_filter(bits, pending))
+        pending.clear()
+
+    def close(after):
+        h, last = out.put(build(interval, group)[0]), group[-1][0]
+        index.append((separator(last, after) if after else last, handle(*h)))
+        group.clear()
+        while len(starts) < len(out.out) // 2048:
+            make()
+
+    for key, value in pairs:
+        if group and len(build(interval, group)[0]) > block_size:
+            close(key)
+        group.append((key, value))
+        pending.append(bloom_hash(point(key)[0]))
+    if group:
+        close(None)
+    if pending:
+        make()
+    f = out.put(filter_block(b''.join(filters), starts))
+    meta = out.put(build(interval, [(BLOOM if bits else b'filter._', handle(*f))])[0])
+    return out.table(meta, out.put(build(interval, index)[0]))
+
+def by_hand(blocks, bloom=None, names=(), interval=16):
+    """A table of blocks, each with its index key."""
+    out, index, names = Layout(), [], list(names)
+    for bound, pairs in blocks:
+        index.append((bound, handle(*out.put(build(interval, pairs)[0]))))
+    if bloom is not None:
+        names.append((BLOOM, handle(*out.put(bloom))))
+    meta = out.put(build(interval, sorted(names))[0])
+    return out.table(meta, out.put(build(interval, index)[0]))
+
+# as built: every interval, sizes of blocks and filters; walked, each place, targets below, on, between and above the keys
+for interval, size, bits, n in ((1, 8, 0, 7), (2, 40, 10, 12), (3, 64, 1, 15), (16, 8, 64, 6), (16, 70, 10, 15), (1024, 65536, 10, 12), (2, 65536, 0, 12), (1, 33, 5, 9)):
+    w = Whole(write_table(interval, size, bits, sample(n)), None).walk().steps()
+    w.ask((b'\0', b'word', b'word000', b'word001', b'word0015', b'word002', b'word9', b'\xff'), (0, 7, 8, 9, 10, last_edition) if n == 15 else (0, 8, last_edition))
+assert len(build(16, [entry(b'a', 1, b'x')])[0]) == 21
+for size in (20, 21):
+    Whole(write_table(16, size, 0, [entry(b'a', 1, b'x'), entry(b'ab', 1, b'y')]), None).walk().steps().ask((b'a', b'ab', b'aa', b'b'), (0, 1, 2))
+for after in (b'tin', b'teb', b'tea\0'):
+    Whole(write_table(16, 8, 10, [entry(b'tea', 9, b'1'), entry(after, 2, b'2')]), None).walk().ask((b'te', b'tea', b'tea\0', b'teb', b'tf', b'tg', b'tin', b'to'), (0, 9, last_edition))
+
+# the empty table
+for bits, foot in ((0, '0a152408'), (10, '0a2f3e08')):
+    t = write_table(16, 4096, bits, [])
+    assert t[-48:-44].hex() == foot
+    w = Whole(t, None).walk().steps().ask((b'\0', b'a', b'\xff' * 1024)).seek(b'a', 5, 1031).lookup(b'a', 5, 1031).step(0, 0, 1031)
+    w.spoiled(b'a', 5, (0x01, 0x80, 0xff))
+
+# 3 and 2, and key buffers of other lengths
+three = [entry(b'a', 5, b'x'), entry(b'b', 9, b'', 0), entry(b'b', 4, b'yy')]
+w = Whole(by_hand([(internal(b'c', 9, 1), three)]), None)
+for room in (0, 1, 1031, 1032, 1033, 1100):
+    for word in (b'', b'b', b'k', b'k' * 1024, b'k' * 1025):
+        for edition in (0, 4, last_edition, 2 ** 56):
+            if room in (1031, 1032) or edition in (4, 2 ** 56):
+                w.seek(word, edition, room).lookup(word, edition, room)
+    w.step(0, 0, room).step(0, 1, room)
+
+# kind bytes: 0 is a deletion, any other a value; the same in index keys
+for kind in (0, 1, 2, 127, 255):
+    w = Whole(by_hand([(internal(b'b', 4, 1 - kind % 2), [entry(b'a', 5, b'x', kind), entry(b'b', 4, b'', kind)]), (internal(b'c', 2, kind), [entry(b'c', 2, b'z', kind)])]), None)
+    w.walk().steps().ask((b'a', b'b', b'c'), (2, 4, 5))
+for kinds in ((0, 1), (1, 0), (1, 1), (1, 255)):
+    Whole(by_hand([(internal(b'b', 4, 1), [entry(b'a', 5, b'x', kinds[0]), entry(b'a', 5, b'y', kinds[1])])]), 11).any(b'a', 5)
+    Whole(by_hand([(internal(b'a', 5, 1), [entry(b'a', 5, b'x', kinds[0])]), (internal(b'b', 4, 1), [entry(b'a', 5, b'y', kinds[1])])]), 11).any(b'a', 5)
+
+# index keys between two blocks, at and next to their bounds
+first, second = [entry(b'a', 5, b'x'), entry(b'b', 4, b'y')], [entry(b'd', 7, b'z'), entry(b'e', 1, b'w')]
+for word, edition, want in ((b'b', 4, None), (b'b', 3, None), (b'b', 0, None), (b'b', 5, 11), (b'b', last_edition, 11), (b'a', 5, 11), (b'bb', last_edition, None), (b'c', 0, None), (b'c' * 1024, 9, None),
+                            (b'd', last_edition, 11), (b'd', 8, 11), (b'd', 7, 11), (b'd', 6, 11), (b'e', 1, 11), (b'f', 0, 11)):
+    w = Whole(by_hand([(internal(word, edition, 1), first), (internal(b'e', 1, 1), second)]), want)
+    w.ask((b'b', b'bb', b'c', b'd'), (0, 4, last_edition))
+    if want is None:
+        w.walk().steps()
+
+# versions of a word across a bound: the index key is the last key, or it lies between two versions and that is 11
+olds = [entry(b'b', 3, b'old'), entry(b'b', 1, b'older', 0), entry(b'c', 2, b'w')]
+for edition, want in ((9, 11), (7, None), (6, 11), (4, 11), (3, 11), (2, 11), (0, 11)):
+    for kind in (0, 1):
+        w = Whole(by_hand([(internal(b'b', edition, kind), [entry(b'a', 5, b'x'), entry(b'b', 7, b'new')]), (internal(b'c', 2, 1), olds)]), want)
+        w.ask((b'b',), (0, 1, 2, 3, 4, 6, 7, 8, last_edition) if kind else (3, 5, 7))
+        if want is None:
+            w.walk().steps()
+w = Whole(by_hand([(internal(b'b', 9 - i, 1), [entry(b'b', 9 - i, b'%d' % i, i % 2)]) for i in range(6)]), None).walk().steps().ask((b'a', b'b', b'c'), range(3, 11))
+
+# a block whose first key stands below the block before it, or is its last key again
+for key in ((b'a', 9), (b'a', 5), (b'b', 9), (b'b', 4)):
+    for bound in (internal(b'b', 4, 1), internal(b'c', 9, 1)):
+        Whole(by_hand([(bound, first), (internal(b'e', 1, 1), [entry(*key, b'z'), entry(b'e', 1, b'w')])]), 11).any(b'a', 9).any(b'b', 4)
+Whole(by_hand([(internal(b'e', 1, 1), second), (internal(b'f', 1, 1), first)]), 11).any(b'd', 7)
+# the same block twice, and blocks that stand in another order than their index entries
+out = Layout()
+hs = [out.put(build(2, es)[0]) for es in (second, first)]
+for names in ([(hs[1], b'b', 4), (hs[0], b'e', 1)], [(hs[1], b'c', 4), (hs[0], b'f', 1)], [(hs[0], b'e', 1), (hs[0], b'f', 1)], [(hs[1], b'b', 4), (hs[1], b'c', 1)]):
+    more = Layout()
+    more.out = out.out + b'between'
+    meta = more.put(array(0))
+    t = more.table(meta, more.put(build(1, [(internal(w, s, 1), handle(*h)) for h, w, s in names])[0]))
+    Whole(t, None if names[0][0] != hs[0] and names[1][0] != hs[1] else 11).ask((b'a', b'b', b'c', b'd', b'e', b'f'), (0, 4, last_edition))
+# metaindex and index the same empty block
+out = Layout()
+h = out.put(array(0))
+Whole(out.table(h, h), None).walk().ask((b'a',))
+
+# two faults: the first of the list decides
+FAULTS = [('magic', 7), ('meta decodes', 8), ('index decodes', 8), ('meta placed', 8), ('index placed', 8), ('meta sealed', 9), ('meta formed', 10), ('meta order', 11),
+          ('index sealed', 9), ('index formed', 10), ('index order', 11), ('filter placed', 8), ('filter sealed', 9), ('filter formed', 12),
+          ('placed 0', 8), ('sealed 0', 9), ('formed 0', 10), ('order 0', 11), ('bound 0', 11), ('denied 0', 12),
+          ('placed 1', 8), ('sealed 1', 9), ('formed 1', 10), ('order 1', 11), ('bound 1', 11), ('next', 11), ('versions', 11), ('below', 11), ('denied 1', 12)]
+
+def wide(h, wrong=False):
+    """A handle of four bytes; a wrong one goes past every small table."""
+    return padded(h[0], 2) + padded(9999 if wrong else h[1], 2)
+
+def faulty(*faults):
+    out, handles = Layout(), []
+    groups = [entry(b'a', 5, b'x'), entry(b'b', 9, b''), entry(b'b', 4, b'yy', 0)], [entry(b'd', 7, b'z'), entry(b'e', 1, b'w'), entry(b'f', 3, b'v')]
+    bounds = [(b'c', last_edition), (b'g', last_edition)]
+    for name, key in (('next', (b'd', 7)), ('versions', (b'b', 3)), ('bound 0', (b'b', 6))):
+        if name in faults:
+            bounds[0] = key
+    if 'bound 1' in faults:
+        bounds[1] = (b'f', 5)
+    for name, key in (('versions', (b'b', 2)), ('below', (b'a', 9))):
+        if name in faults:
+            groups[1][0] = entry(*key, b'z')
+    for i, es in enumerate(groups):
+        if 'order %d' % i in faults:
+            es[0], es[1] = es[1], es[0]
+        s = bytearray(build(16, es)[0])
+        if 'formed %d' % i in faults:
+            s[entries(s)[-1][0] + 2] += 1
+        h = out.put(bytes(s), 'sealed %d' % i not in faults)
+        handles.append(wide(h, 'placed %d' % i in faults))
+    words = b'q' if 'denied 0' in faults else b'a', b'b', b'd', b'q' if 'denied 1' in faults else b'e', b'f'
+    s = filter_block(make_filter(16, [bloom_hash(w) for w in words]), [0])
+    h = out.put(s[:-1] + b'\x20' if 'filter formed' in faults else s, 'filter sealed' not in faults)
+    names = [b'z' if 'meta order' in faults else b'a', BLOOM, b'y']
+    s = bytearray(build(16, [(n, wide(h, 'filter placed' in faults) if n == BLOOM else b'') for n in names])[0])
+    if 'meta formed' in faults:
+        s[entries(s)[1][3] + 3] |= 0x80
+    meta = out.put(bytes(s), 'meta sealed' not in faults)
+    if 'index order' in faults:
+        bounds.reverse()
+    s = bytearray(build(16, [(internal(*b, 1), h) for b, h in zip(bounds, handles)])[0])
+    if 'index formed' in faults:
+        s[entries(s)[1][3] + 3] |= 0x80
+    index = out.put(bytes(s), 'index sealed' not in faults)
+    far = b'\xff' * 12
+    foot = far if 'meta decodes' in faults else wide(meta, 'meta placed' in faults)
+    foot += far if 'index decodes' in faults else wide(index, 'index placed' in faults)
+    t = out.table(meta, index, foot)
+    return t[:-1] + b'\0' if 'magic' in faults else t
+
+targets = (b'a', b'b', b'c', b'd', b'e', b'f', b'g', b'h')
+w = Whole(faulty(), None).walk().steps().ask(targets)
+w.spoiled(b'b', 5, (0x01, 0x02, 0x10, 0x80, 0xff))
+for name, number in FAULTS:
+    Whole(faulty(name), number).ask(targets[::2], (0, 7)).seek(b'', 0).lookup(b'b', 2 ** 56).seek(b'b', 5, 1031).lookup(b'', 5, 1031).step(0, 0, 1031)
+for i, (one, number) in enumerate(FAULTS):
+    for other, _ in FAULTS[i + 1:]:
+        Whole(faulty(one, other), number).any()
+
+# the footer: its length, its magic, handles at the end of what may be named, padded, too long and too large
+t = by_hand([(internal(b'c', 9, 1), three)])
+for n in (0, 1, 8, 47, 48):
+    Whole(t[-n:] if n else b'').seek(b'a', 5).lookup(b'a', 5).step(0, 0).seek(b'', 5).step(0, 0, 0)
+for i in range(8):
+    Whole(t[:-8] + MAGIC[:i] + bytes([MAGIC[i] ^ 0x20]) + MAGIC[i + 1:], 7).seek(b'a', 5)
+meta, index = footer_handles(t)
+end = len(t) - 48
+def footed(foot, want='any'):
+    Whole(t[:-48] + foot + b'\0' * (40 - len(foot)) + MAGIC, want).any()
+for size in (1, 2, 9, 10):
+    footed(padded(meta[0], size) + padded(meta[1], size) + padded(index[0], size) + padded(index[1], size), None)
+for size in (10, 11):
+    footed(padded(meta[0], size) + padded(meta[1], size) + handle(*index), None if size == 10 else 8)
+    footed(handle(*meta) + padded(index[0], size) + padded(index[1], size), None if size == 10 else 8)
+for more in (0, 1, 2 ** 32, 2 ** 63, 2 ** 64 - 1):
+    for h in ((end - 5 - meta[1] + more, meta[1]), (meta[0], end - 5 - meta[0] + more), (more, more), (end - 5 + more, 0), (0, end - 5 + more)):
+        if max(h) < 2 ** 64:
+            footed(handle(*h) + handle(*index))
+            footed(handle(*meta) + handle(*h))
+footed(padded(2 ** 64, 10) + b'\0' + handle(*index), 8)
+footed(padded(2 ** 64 - 1, 10) * 2 + handle(*index), 8)
+footed(b'\x80' * 40, 8)
+footed(handle(*meta) + b'\x80' * 36, 8)
+footed(handle(*meta) + handle(*index) + b'\xff' * 36, None)
+footed(handle(*index) + handle(*meta))
+footed(handle(*index) + handle(*index))
+footed(handle(*meta) + handle(*meta))
+
+# what follows a block: its type, and each byte of its checksum
+for h in (read_handle(contents(t, (index[0] + entries(contents(t, index))[0][3], 2))), meta, index):
+    for at in range(5):
+        s = bytearray(t)
+        s[h[0] + h[1] + at] ^= 0x01
+        Whole(bytes(s), 9).any(b'b', 5)
+    # another type, with the checksum of it
+    s[h[0]:h[0] + h[1] + 5] = sealed(contents(t, h), b'\x01')
+    Whole(bytes(s), 9).any(b'b', 5)
+Whole(t, None)
+
+# index entries whose handle goes to the end of what may be named, and past it; an index value that is no handle or more
+out = Layout()
+h = out.put(build(16, three)[0])
+meta = out.put(array(0))
+key = internal(b'c', 9, 1)
+for value in (handle(*h), padded(h[0], 10) + padded(h[1], 10), handle(h[0], h[1] - 1), handle(h[0] + 1, h[1]), handle(0, 0), handle(2 ** 64 - 1, 1), handle(2 ** 64 - 1, 2 ** 64 - 1), handle(1, 2 ** 64 - 1), handle(h[0], 2 ** 32 + h[1]),
+              handle(*h) + b'\0', b'', b'\0', padded(h[0], 11) + b'\0', handle(*meta)):
+    more = Layout()
+    more.out = out.out
+    Whole(more.table(meta, more.put(build(16, [(key, value)])[0]))).any(b'b', 5).any(b'a', 9, 0, 12)
+for past in (0, 1):
+    more = Layout()
+    more.out = out.out
+    s = build(16, [(key, handle(*h)), (internal(b'd', 9, 1), padded(0, 2) + padded(0, 2))])[0]
+    size = len(out.out) + len(s) + past
+    s = build(16, [(key, handle(*h)), (internal(b'd', 9, 1), padded(0, 2) + padded(size, 2))])[0]
+    Whole(more.table(meta, more.put(s)), 8 if past else 9).any(b'b', 5).any(b'd', 5)
+# keys of the index and of data blocks that are too short, and none in a block
+for n in (0, 7, 8, 9):
+    Whole(by_hand([(b'z' * n, three)]), None if n == 9 else 10).any(b'b', 5)
+    Whole(by_hand([(internal(b'zz', 9, 1), [(b'z' * n, b'')])]), None if n == 9 else 10).any(b'b', 5)
+Whole(by_hand([(internal(b'c', 9, 1), three), (internal(b'd', 9, 1), [])]), 10).any(b'b', 5).any(b'd', 5)
+
+# other names in the metaindex, and names that do not rise
+for names in ([], [(b'a', b'')], [(b'filter._', handle(9999, 9999))], [(b'a', b'x'), (BLOOM[:-1], b''), (BLOOM + b'\0', b'y')], [(b'k' * 1032, b'')]):
+    Whole(by_hand([(internal(b'c', 9, 1), three)], None, names), None).walk().ask((b'b',))
+for names in ([b'a', b'a'], [b'b', b'a'], [b'ab', b'a'], [BLOOM, BLOOM], [b'z', BLOOM]):
+    out = Layout()
+    h = out.put(build(16, three)[0])
+    meta = out.put(build(16, [(n, handle(0, 0)) for n in names])[0])
+    Whole(out.table(meta, out.put(build(16, [(key, handle(*h))])[0])), 11).any(b'b', 5)
+
+# filters: several blocks to one, several to a table, none for a block, those that let all pass, and those that deny an entry
+spread = [entry(b'w%d' % i, 5, b'v' * 700, i % 3) for i in range(9)]
+for interval, size, bits in ((16, 8, 10), (1, 1500, 10), (2, 3000, 1), (16, 8, 0)):
+    w = Whole(write_table(interval, size, bits, spread), None).walk().steps().ask([b'w%d' % i for i in range(9)] + [b'w', b'w10', b'x', b'w44'], (4, 5))
+hashes = [bloom_hash(w) for w in (b'a', b'b')]
+good, poor = make_filter(10, hashes), make_filter(10, hashes[:1])
+assert not filter_may(poor, hashes[1])
+for bloom, want in ((filter_block(good, [0]), None), (filter_block(poor, [0]), 12), (filter_block(b'', []), None), (filter_block(b'', [0]), None), (filter_block(b'', [0, 0, 0]), None), (filter_block(poor, []), None),
+                    (filter_block(poor[:-1] + b'\x1f', [0]), None), (filter_block(poor[:-1] + b'\xff', [0]), None), (filter_block(poor[:-1] + b'\x1e', [0]), 12), (filter_block(b'\0\x06', [0]), 12), (filter_block(b'\x06', [0]), None), (filter_block(b'\xff\x06', [0]), None),
+                    (filter_block(good, [0])[:-1] + b'\x1f', None), (filter_block(poor, [0])[:-1] + b'\0', 12), (filter_block(poor, [0])[:-1] + b'\x20', 12), (filter_block(good, [len(good)]), None), (filter_block(good, [len(good) + 1]), 12),
+                    (filter_block(good + poor, [0, len(good)]), None), (filter_block(poor + good, [0, len(poor)]), 12), (filter_block(good, [1, 0]), 12), (filter_block(good, [0])[1:], 12), (b'', 12), (b'\0\0\0\x0b', 12), (b'\0\0\0\0\x0b', None)):
+    w = Whole(by_hand([(internal(b'c', 9, 1), three)], bloom), want).ask((b'a', b'b', b'c', b'no', b'toe'), (4, 9))
+    if want is None:
+        w.walk()
+# each block asks the filter of its own offset
+for base in (2, 4, 5):
+    out = Layout()
+    hs = [out.put(build(16, es)[0]) for es in (first, second)]
+    for wrong in (None, 0, 1):
+        fs = [b''] * (hs[1][0] // 2 ** base + 1)
+        for i, words in enumerate(((b'a', b'b'), (b'd', b'e'))):
+            fs[hs[i][0] // 2 ** base] = make_filter(10, [bloom_hash(w) for w in words[wrong == i:]])
+        starts = [sum(map(len, fs[:i])) for i in range(len(fs))]
+        more = Layout()
+        more.out = out.out
+        h = more.put(filter_block(b''.join(fs), starts)[:-1] + bytes([base]))
+        meta = more.put(build(16, [(BLOOM, handle(*h))])[0])
+        s = build(16, [(internal(b'c', 9, 1), handle(*hs[0])), (internal(b'f', 9, 1), handle(*hs[1]))])[0]
+        Whole(more.table(meta, more.put(s)), 12 if wrong is not None else None).ask((b'a', b'b', b'bb', b'd', b'e', b'f'), (4, 9))
+
+# the longest keys and values, and a byte more
+big = [entry(longest, last_edition, b'', 0), entry(longest, 5, b'v' * 32768), entry(longest[:-1] + b'l', 0, b'w')]
+for size in (8, 65536):
+    w = Whole(write_table(2, size, 10, big), None).walk().steps().ask((longest, longest[:-1], longest[:-1] + b'l', longest[:-1] + b'm', b'k', b'l'), (0, 4, 5, last_edition))
+    w.seek(longest, 5, 1031).lookup(longest, 5, 1031).lookup(longest + b'k', 5).seek(longest, 5, 1100).lookup(longest, 5, 1100)
+Whole(by_hand([(internal(b'c', 9, 1), [entry(b'a', 5, b'v' * 32769)])]), 10).any(b'a', 5)
+Whole(by_hand([(internal(b'c', 9, 1), [(b'k' * 1033, b'')])]), 10).any(b'a', 5)
+out = Layout()
+h = out.put(build(16, three)[0])
+meta = out.put(array(0))
+s = body((0, b'k' * 1033, handle(*h))) + array(0)
+Whole(out.table(meta, out.put(s)), 10).any(b'a', 5)
+
+# every byte of small tables changed, and every shorter length of them
+for interval, size, bits, n in ((2, 30, 10, 5), (1, 8, 0, 3), (16, 60, 10, 9)):
+    Whole(write_table(interval, size, bits, sample(n)), None).walk().spoiled(b'word000', 8, (0x01, 0x04, 0x40, 0x80, 0xff))
+
 os.makedirs(TOP, exist_ok=True)
 open(os.path.join(TOP, 'stdin'), 'w').write('\n'.join(lines) + '\n')
 open(os.path.join(TOP, 'stdout'), 'w').write('\n'.join(a.strip() for a in answers) + '\n')
-print(len(lines), 'cases,', os.path.getsize(os.path.join(TOP, 'stdin')), 'bytes')
+print(len(lines), 'cases,', os.path.getsize(os.path.join(TOP, 'stdin')), 'bytes;', ', '.join('%s %d' % (c, sum(l[0] == c for l in lines)) for c in sorted({l[0] for l in lines})))

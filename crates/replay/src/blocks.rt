@@ -1,8 +1,8 @@
-// Commands on blocks: one is built or loaded, and the others damage it or read it.
+// Commands on blocks: one is built or loaded, and the others damage it or read it. What is loaded may be a table as well.
 use crate::fields;
 use crate::fields::front;
 use crate::show;
-use block::block as reader;
+use block::block as rows;
 use block::block::EntryRead;
 use block::block::Found;
 use block::block::Kind;
@@ -118,8 +118,17 @@ fn damage(s: &[u8], at: usize, out: &mut [u8]) {
     }
 }
 
+// Bytes written over those at a place.
+fn patch(s: &[u8], at: usize, out: &mut [u8]) {
+    let place = fields::number(s, at);
+    let p = place.value;
+    if p < out.len() {
+        fields::field(s, place.next, &mut out[p..]);
+    }
+}
+
 fn formed(b: &[u8], kind: Kind) {
-    show::yes(reader::is_formed(b, kind), b" 0", b" 1");
+    show::yes(rows::is_formed(b, kind), b" 0", b" 1");
 }
 
 fn kinds(b: &[u8]) {
@@ -165,14 +174,14 @@ fn seek(s: &[u8], at: usize, b: &[u8]) {
     let mut key = [0xee_u8; 1032];
     let f = fields::field(s, at, &mut w);
     let sequence = fields::number(s, f.next);
-    let r = reader::seek(b, front(&w, f.len), sequence.value as u64, &mut key);
+    let r = rows::seek(b, front(&w, f.len), sequence.value as u64, &mut key);
     found(b, &key, r);
 }
 
 fn next(s: &[u8], at: usize, b: &[u8]) {
     let mut key = [0xee_u8; 1032];
     let place = fields::number(s, at);
-    let r = reader::next(b, place.value, &mut key);
+    let r = rows::next(b, place.value, &mut key);
     found(b, &key, r);
 }
 
@@ -215,13 +224,13 @@ fn visit(b: &[u8], f: Found, key: &[u8], n: usize) -> Walked {
 
 fn walk_first(b: &[u8]) -> Walked {
     let mut key = [0xee_u8; 1032];
-    let f = reader::first(b, &mut key);
+    let f = rows::first(b, &mut key);
     visit(b, f, &key, 0)
 }
 
 fn walk_next(b: &[u8], at: usize, n: usize) -> Walked {
     let mut key = [0xee_u8; 1032];
-    let f = reader::next(b, at, &mut key);
+    let f = rows::next(b, at, &mut key);
     visit(b, f, &key, n)
 }
 
@@ -262,7 +271,7 @@ fn any(s: &[u8], at: usize, b: &[u8]) {
     let mut w = [0u8; 1100];
     let mut key = [0u8; 1032];
     let f = fields::field(s, at, &mut w);
-    let r = reader::seek(b, front(&w, f.len), 7, &mut key);
+    let r = rows::seek(b, front(&w, f.len), 7, &mut key);
     show::yes(inside(b, r), b" outside", b" inside");
     every(b);
 }
@@ -277,7 +286,7 @@ fn every(b: &[u8]) {
 
 fn after(b: &[u8], at: usize) {
     let mut key = [0u8; 1032];
-    let f = reader::next(b, at, &mut key);
+    let f = rows::next(b, at, &mut key);
     show::yes(inside(b, f), b" outside", b"");
 }
 
@@ -288,7 +297,7 @@ fn read(s: &[u8], at: usize) {
     let fr = fields::field(s, at, &mut rest);
     let fk = fields::field(s, fr.next, &mut key);
     let n = fields::number(s, fk.next);
-    let r = reader::read_entry(front(&rest, fr.len), &mut key, n.value);
+    let r = rows::read_entry(front(&rest, fr.len), &mut key, n.value);
     told(front(&rest, fr.len), r);
     show::say(b" ");
     show::shown(&key);
@@ -340,7 +349,7 @@ fn ask(s: &[u8], at: usize, op: u8, b: &[u8]) {
     read(s, at);
 }
 
-// Answers a command, and says how long the loaded block then is.
+// Answers a command, and says how long the loaded bytes then are.
 pub fn answer(s: &[u8], at: usize, end: usize, op: u8, out: &mut [u8], len: usize) -> usize {
     if op == b'B' {
         return build(s, at, end, out);
@@ -350,6 +359,10 @@ pub fn answer(s: &[u8], at: usize, end: usize, op: u8, out: &mut [u8], len: usiz
     }
     if op == b'D' {
         damage(s, at, out);
+        return len;
+    }
+    if op == b'Z' {
+        patch(s, at, out);
         return len;
     }
     if op == b'T' {

@@ -8,14 +8,15 @@ mod fields;
 mod filters;
 mod keyed;
 mod show;
+mod tables;
 
-// Where the next line starts, and how long the loaded block is.
+// Where the next line starts, and how long the loaded bytes are.
 struct Answered {
     next: usize,
     len: usize,
 }
 
-// Answers a command, and says how long the loaded block then is.
+// Answers a command, and says how long the loaded bytes then are.
 fn answer(s: &[u8], from: usize, end: usize, op: u8, block: &mut [u8], len: usize) -> usize {
     if keyed::knows(op) {
         keyed::answer(s, from, op);
@@ -23,6 +24,10 @@ fn answer(s: &[u8], from: usize, end: usize, op: u8, block: &mut [u8], len: usiz
     }
     if filters::knows(op) {
         filters::answer(s, from, end, op);
+        return len;
+    }
+    if tables::knows(op) {
+        tables::answer(s, from, op, block, len);
         return len;
     }
     blocks::answer(s, from, end, op, block, len)
@@ -57,7 +62,7 @@ fn lines(s: &[u8], block: &mut [u8]) {
 }
 
 fn main() {
-    let mut input = [0u8; 393216];
+    let mut input = [0u8; 480000];
     let mut block = [0u8; 65536];
     let n = io::read_full(0, &mut input);
     lines(&input[0..n], &mut block);

@@ -85,7 +85,7 @@ pub fn written(run: &[u8], from: usize, w: Written) {
 }
 
 // Whether a run is still full of ee.
-fn untouched(s: &[u8]) -> bool {
+pub fn untouched(s: &[u8]) -> bool {
     let mut i: usize = 0;
     while i < s.len() {
         if s[i] != 0xee {
