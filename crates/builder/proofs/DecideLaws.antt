@@ -1,0 +1,229 @@
+-- What is decided of an addition before anything is written.
+use Prim.Native.Nat.{ℕ, _+_, _-_, _^_, _≤_, _<_}
+use mathlib.Core.Path.{_≡_, refl, sym, ap, _∙_}
+use mathlib.Core.Logic.{_⊎_, inl, inr}
+use mathlib.Core.List.{List, []}
+use mathlib.Core.Bool.{Bool, true, false, _&&_, cond}
+use native.Mathlib.Nat.{zero-add}
+use native.Mathlib.Omega.{arith}
+use lib.Dec.{eqb, leb, ltb}
+use lib.ListN.{length, take, length-append, length-take}
+use borrow.Author.Tests.{leb-true, ltb-true, eqb-true, eq-eqb, ne-eqb}
+use Rattle.codec.specs.Put.{put, Wrote}
+use Rattle.codec.specs.declared.put.Written.{Written}
+use Rattle.codec.specs.declared.put.Written.the-variants.{At, NoRoom}
+use Rattle.codec.proofs.Prelude.{test, both}
+use Rattle.codec.proofs.PutLaws.{put-length, put-front, wrote-next, wrote-never}
+use Rattle.keys.specs.Order.{bytesBelow, userOf, lastTag, userSep, separator, below}
+use Rattle.block.specs.Builder.{newBuilder}
+use Rattle.table.specs.Options.{optionsFit}
+use Rattle.table.specs.Runs.{roomOf}
+use Rattle.table.specs.Counts.{finishedSize}
+use Rattle.builder.specs.declared.table_builder.Lengths.{Lengths}
+use Rattle.builder.specs.declared.table_builder.Builder.{Builder}
+use Rattle.builder.specs.declared.table_builder.Plan.{Plan}
+use Rattle.builder.specs.State.{optionsOf, countsIn, sameLengths, sizesFit, sane}
+use Rattle.builder.specs.Steps.{small, Small, lastOf, closedState, Roomy, enteredState, Whole, earlyOf, aboveLast, cutOf, sepOf, midOf, nextOf, fitsOf, decideOf, DecidedIs}
+use Rattle.builder.proofs.SizeLaws.{small-is, Bounded, bounded-closed}
+
+-- ---- what a sane state has
+
+pub record Sane (s : Builder) (l : Lengths) : Type 0 where
+  pub same : sameLengths (s .lengths) l ≡ true
+  pub options : optionsFit (optionsOf (s .options)) ≡ true
+  pub out : s .written + s .pending .bytes ≤ l .out
+  pub index : s .indexed .bytes ≤ l .index
+  pub filters : s .filtered ≤ l .filters
+  pub restarts : s .pending .restarts ≤ l .restarts
+  pub indexRestarts : s .indexed .restarts ≤ l .«index_restarts»
+  pub offsets : s .made ≤ l .offsets
+  pub hashes : s .waiting ≤ l .hashes
+  pub len : s .pending .len ≤ 1032
+  pub indexLen : s .indexed .len ≤ 1032
+
+pub sane-is : (s : Builder) (l : Lengths) → sane s l ≡ true → Sane s l
+unfolding sane sizesFit
+sane-is s l e =
+    let x1 = both (sameLengths (s .lengths) l) _ e in
+    let x2 = both (optionsFit (optionsOf (s .options))) _ (x1 .1) in
+    let y1 = both (leb (s .written + s .pending .bytes) (l .out)) _ (x2 .1) in
+    let y2 = both (leb (s .indexed .bytes) (l .index)) _ (y1 .1) in
+    let y3 = both (leb (s .filtered) (l .filters)) _ (y2 .1) in
+    let y4 = both (leb (s .pending .restarts) (l .restarts)) _ (y3 .1) in
+    let y5 = both (leb (s .indexed .restarts) (l .«index_restarts»)) _ (y4 .1) in
+    let y6 = both (leb (s .made) (l .offsets)) _ (y5 .1) in
+    let y7 = both (leb (s .waiting) (l .hashes)) _ (y6 .1) in
+    let y8 = both (leb (s .pending .len) 1032) _ (y7 .1) in
+    record {
+      same = x1 .0;
+      options = x2 .0;
+      out = leb-true _ _ (y1 .0);
+      index = leb-true _ _ (y2 .0);
+      filters = leb-true _ _ (y3 .0);
+      restarts = leb-true _ _ (y4 .0);
+      indexRestarts = leb-true _ _ (y5 .0);
+      offsets = leb-true _ _ (y6 .0);
+      hashes = leb-true _ _ (y7 .0);
+      len = leb-true _ _ (y8 .0);
+      indexLen = leb-true _ _ (y8 .1);
+    }
+
+pub last-short : (s : Builder) → s .pending .len ≤ 1032 → length (lastOf s) ≤ 1032
+unfolding lastOf
+last-short s h = simp length-take (omega arith)
+
+-- ---- the refusals 6, 2 and 3
+
+module _ (s : Builder) (l : Lengths) (t : Bool) where
+  pub early-finished : s .finished ≡ true → 6 ≡ earlyOf s l t
+  unfolding earlyOf
+  early-finished e = rw e
+
+  pub early-insane : s .finished ≡ false → {u : Bool} → u ≡ sane s l → u ≡ false → 2 ≡ earlyOf s l t
+  unfolding earlyOf
+  early-insane e f g = let n : sane s l ≡ false = sym f ∙ g in rw (n, e)
+
+  pub early-fits : s .finished ≡ false → {u : Bool} → u ≡ sane s l → u ≡ true → t ≡ true → 0 ≡ earlyOf s l t
+  unfolding earlyOf
+  early-fits e f g h = let n : sane s l ≡ true = sym f ∙ g in rw (n, e, h)
+
+  pub early-large : s .finished ≡ false → {u : Bool} → u ≡ sane s l → u ≡ true → t ≡ false → 3 ≡ earlyOf s l t
+  unfolding earlyOf
+  early-large e f g h = let n : sane s l ≡ true = sym f ∙ g in rw (n, e, h)
+
+-- ---- separators
+
+pub sep-most : (a b : List ℕ) → length (separator a b) ≤ length a
+unfolding separator userOf lastTag
+sep-most a b =
+    let s = userSep (userOf a) (userOf b) in
+    let u = length-take (length a - 8) a in
+    test (ltb (length s) (length (userOf a)) && bytesBelow (userOf a) s)
+    (λ t.
+    let h = ltb-true (length s) (length (userOf a)) (both (ltb (length s) (length (userOf a))) (bytesBelow (userOf a) s) t .0) in
+    rw (t, separator) (simp length-append (omega arith)))
+    (λ t. rw (t, separator) (omega arith))
+
+module _ (d a key : List ℕ) (r : Written) (e : List ℕ) (l : length d ≡ 1032) (k : length a ≤ 1032) (w : Wrote d 0 (separator a key) r e) where
+  sep-room : 0 + length (separator a key) ≤ length d
+  sep-room = omega (arith, sep-most a key)
+
+  pub sep-never : r ≡ NoRoom → ⊥
+  sep-never = wrote-never d 0 (separator a key) r e sep-room w
+
+  pub sep-put : (n : ℕ) → r ≡ At n → (n ≤ 1032) × ((length e ≡ 1032) × (take n e ≡ separator a key))
+  sep-put n p =
+      let m : n ≡ 0 + length (separator a key) = wrote-next d 0 (separator a key) n r e sep-room w p in (
+        omega (arith, sep-room),
+        (ap length (w .left) ∙ put-length d 0 (separator a key) ∙ l, rw (m, w .left) (put-front d 0 (separator a key) sep-room)),
+      )
+
+-- ---- the last key
+
+pub above-none : (s : Builder) (key : List ℕ) → s .pending .restarts ≡ 0 → true ≡ aboveLast s key
+unfolding aboveLast
+above-none s key e = rw (eq-eqb (s .pending .restarts) 0 e)
+
+pub above-some : (s : Builder) (key : List ℕ) → (s .pending .restarts ≡ 0 → ⊥) → below (lastOf s) key ≡ aboveLast s key
+unfolding aboveLast
+above-some s key e = rw (ne-eqb (s .pending .restarts) 0 e)
+
+-- ---- a cut
+
+pub mid-not : (s : Builder) (key : List ℕ) {t : Bool} → t ≡ cutOf s → t ≡ false → s ≡ midOf s key
+unfolding midOf
+mid-not s key e f = rw (sym e ∙ f)
+
+pub mid-cut : (s : Builder) (key : List ℕ) {t : Bool} → t ≡ cutOf s → t ≡ true → closedState s (sepOf s key) ≡ midOf s key
+unfolding midOf
+mid-cut s key e f = rw (sym e ∙ f)
+
+pub mid-roomy : (s : Builder) (key : List ℕ) (v : ℕ) → Small s → s .pending .len ≤ 1032 → length key ≤ 1032 → v ≤ 32768 → {m : Builder} → m ≡ midOf s key → Roomy m (length key) v
+mid-roomy s key v h n k j {m} e =
+    test (cutOf s)
+    (λ t. rw (e, ← mid-cut s key refl t) (roomy-closed (sepOf s key) (unfold sepOf in omega (arith, sep-most (lastOf s) key, last-short s n))))
+    (λ t. rw (e, ← mid-not s key refl t) roomy-same)
+  where
+    roomy-same : Roomy s (length key) v
+    roomy-same =
+        record {
+          key = k;
+          value = j;
+          least = omega (arith, h .least, h .interval);
+          most = omega (arith, h .most, h .interval);
+          since = omega (arith, h .since, h .interval);
+          bytes = h .bytes;
+          restarts = h .restarts;
+          waiting = h .waiting;
+        }
+
+    roomy-closed : (sep : List ℕ) → length sep ≤ 1032 → Roomy (closedState s sep) (length key) v
+    roomy-closed sep q =
+        let b = bounded-closed s h sep q in
+        unfold closedState newBuilder in
+        record {
+          key = k;
+          value = j;
+          least = h .least;
+          most = h .most;
+          since = omega arith;
+          bytes = omega arith;
+          restarts = omega arith;
+          waiting = b .waiting;
+        }
+
+-- ---- the room
+
+module _ (s : Builder) (l : Lengths) where
+  pub room-insane : {t : Bool} → t ≡ sane s l → t ≡ false → false ≡ fitsOf s l
+  unfolding fitsOf
+  room-insane e f = rw (sym e ∙ f)
+
+  pub room-large : {t u : Bool} → t ≡ sane s l → t ≡ true → u ≡ small s → u ≡ false → false ≡ fitsOf s l
+  unfolding fitsOf
+  room-large e f g h = rw (sym e ∙ f, sym g ∙ h)
+
+  pub room-size : {t u : Bool} {x y : ℕ} → t ≡ sane s l → t ≡ true → u ≡ small s → u ≡ true → x ≡ finishedSize (optionsOf (s .options)) (countsIn s) → y ≡ roomOf (l .out)
+      → leb x y ≡ fitsOf s l
+  unfolding fitsOf
+  room-size e f g h p q = rw (sym e ∙ f, sym g ∙ h, p, q)
+
+  pub sane-small : {t u : Bool} → t ≡ sane s l → t ≡ true → u ≡ small s → u ≡ true → Small s
+  sane-small e f g h = small-is s (sane-is s l (sym e ∙ f) .options) (sym g ∙ h)
+
+-- ---- all of it
+
+module _ (s : Builder) (l : Lengths) (key : List ℕ) (v : ℕ) (m n : Builder) where
+  pub decided-large : {t : Bool} → t ≡ small s → t ≡ false → DecidedIs s l key v (record { answer = 5; mid = m; next = n })
+  unfolding decideOf
+  decided-large e f =
+      record { kind = inr (inr refl); answer = λ w. rw (sym e ∙ f); mid = λ z. absurd (omega arith); next = λ z. absurd (omega arith); small = λ z. absurd (omega arith) }
+
+  pub decided-low : {t u : Bool} → t ≡ small s → t ≡ true → u ≡ aboveLast s key → u ≡ false → DecidedIs s l key v (record { answer = 4; mid = m; next = n })
+  unfolding decideOf
+  decided-low e f g h =
+      record { kind = inr (inl refl); answer = λ w. rw (sym e ∙ f, sym g ∙ h); mid = λ z. absurd (omega arith); next = λ z. absurd (omega arith); small = λ z. absurd (omega arith) }
+
+  module _ {t u r : Bool} (e : t ≡ small s) (f : t ≡ true) (g : u ≡ aboveLast s key) (h : u ≡ true) {m′ n′ : Builder} (p : m′ ≡ midOf s key) (q : n′ ≡ enteredState m′ key v)
+      (k : Whole n′ → r ≡ fitsOf n′ l) where
+    next-is : n′ ≡ nextOf s key v
+    unfolding nextOf
+    next-is = q ∙ ap (λ (x : Builder). enteredState x key v) p
+
+    fits-is : Whole (nextOf s key v) → fitsOf (nextOf s key v) l ≡ r
+    fits-is w = ap (λ (x : Builder). fitsOf x l) (sym next-is) ∙ sym (k (rw next-is w))
+
+    pub decided-full : r ≡ false → DecidedIs s l key v (record { answer = 5; mid = m; next = n })
+    unfolding decideOf
+    decided-full j =
+        record {
+          kind = inr (inr refl);
+          answer = λ w. rw (sym e ∙ f, sym g ∙ h, fits-is w ∙ j);
+          mid = λ z. absurd (omega arith);
+          next = λ z. absurd (omega arith);
+          small = λ z. absurd (omega arith);
+        }
+
+    pub decided-ok : Small s → r ≡ true → DecidedIs s l key v (record { answer = 0; mid = m′; next = n′ })
+    unfolding decideOf
+    decided-ok i j = record { kind = inl refl; answer = λ w. rw (sym e ∙ f, sym g ∙ h, fits-is w ∙ j); mid = λ z. p; next = λ z. next-is; small = λ z. i }

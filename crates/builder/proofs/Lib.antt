@@ -1,0 +1,4 @@
+pub mod NumberLaws
+pub mod StartLaws
+pub mod SizeLaws
+pub mod DecideLaws

@@ -1,0 +1,399 @@
+-- The counts of a state that a table within the limit can have: how large they get, and that they move as the definitions say.
+use Prim.Native.Nat.{ℕ, zero, suc, _+_, _*_, _/_, _^_, _-_, _≤_, _<_, min, max}
+use mathlib.Core.Path.{_≡_, refl, sym, ap, ap₂, _∙_}
+use mathlib.Core.List.{List, []}
+use mathlib.Core.Bool.{Bool, true, false, _&&_, cond}
+use native.Mathlib.Nat.{mul-le-mul-left, zero-add}
+use native.Mathlib.Numerals.{add-one}
+use native.Mathlib.Omega.{arith}
+use lib.Dec.{eqb, leb, ltb}
+use lib.ListN.{length, take, length-replicate}
+use borrow.Author.Tests.{le-leb, lt-ltb, le-ltb, leb-true, eqb-false, eqb-true}
+use Rattle.codec.specs.Varint.{varintBytes, varintBytesF}
+use Rattle.codec.specs.Put.{put}
+use Rattle.codec.proofs.Prelude.{test, split, both}
+use Rattle.codec.proofs.PutLaws.{put-length, put-front}
+use Rattle.codec.proofs.VarintLaws.{varint-bytes-length}
+use Rattle.block.specs.declared.block_builder.BlockBuilder.{BlockBuilder}
+use Rattle.block.specs.declared.block_builder.Counted.{Counted}
+use Rattle.block.specs.Block.{since, sharing}
+use Rattle.block.specs.Formed.{within, bloomName}
+use Rattle.block.specs.Count.{BlockCount, noEntries, varintSize, entrySize, countEntry, countSize}
+use Rattle.block.specs.Builder.{countIn, newBuilder, builderWith, builderAfter, countable, countsFit, CountedIs}
+use Rattle.block.proofs.BuilderLaws.{counting-none}
+use Rattle.block.proofs.BuilderCode.{fits-all}
+use Rattle.block.proofs.CountLaws.{count-none}
+use Rattle.filter.specs.declared.filter.Filter as FilterEnum
+use Rattle.filter.specs.declared.filter.Filter.the-variants as FilterCase
+use Rattle.filter.specs.Filter.{filterSize}
+use Rattle.filter.specs.FilterBlock.{Filtering, unfiltered, bitsPerKey}
+use Rattle.filter.specs.FilterCount.{FilterCount, filterBytesOf, countMade, countUpTo, countLast, filterBlockSize}
+use Rattle.filter.specs.Choice.{choiceOf}
+use Rattle.table.specs.Options.{Options, indexInterval, optionsFit, filteringFits}
+use Rattle.table.specs.Build.{metaName}
+use Rattle.table.specs.Counts.{Counts, handleSize, countClose, countCloseLast, metaSize, finishedSize}
+use Rattle.table.proofs.AcceptLaws.{within-parts}
+use Rattle.builder.specs.declared.table_builder.Options as Given
+use Rattle.builder.specs.declared.table_builder.Lengths.{Lengths}
+use Rattle.builder.specs.declared.table_builder.Builder.{Builder}
+use Rattle.builder.specs.declared.table_builder.FilterSizes.{FilterSizes}
+use Rattle.builder.specs.State.{optionsOf, countsIn, sane, sameLengths, sizesFit}
+use Rattle.builder.specs.Steps.{small, Small, filterCountIn, filtersIn, openSize, lastOf, endsAt, filtersThen, closedState, Roomy, enteredState, lastState, metaLen, Whole}
+
+-- ---- one entry more
+
+since-most : (i n : ℕ) → 1 ≤ i → n ≤ i → since i n ≤ i
+unfolding since
+since-most i n h k = test (eqb n i) (λ t. rw (t, since) h) (λ t. let ne = eqb-false n i t in rw (t, since) (split n i (λ l. l) (λ g. absurd (ne (omega arith)))))
+
+module _ (i : ℕ) (b : BlockCount) (key : List ℕ) (v : ℕ) where
+  entry-bytes : countEntry i b key v .bytes ≤ b .bytes + v + length key + 30
+  unfolding countEntry entrySize
+  entry-bytes =
+      let s = sharing i (b .since) (b .last) key in
+      omega (arith, varint-bytes-length s, varint-bytes-length (length key - s), varint-bytes-length v)
+
+  entry-restarts : countEntry i b key v .restarts ≤ b .restarts + 1
+  unfolding countEntry
+  entry-restarts = test (eqb (b .since) i) (λ t. rw (t, countEntry) (omega arith)) (λ t. rw (t, countEntry) (omega arith))
+
+-- it can be counted
+pub countable-small : (b : BlockBuilder) (key : List ℕ) (v : ℕ) → length key ≤ 1032 → v ≤ 2 ^ 40 → b .bytes ≤ 2 ^ 40 → b .restarts ≤ 2 ^ 40 → b .since ≤ b .interval → 1 ≤ b .interval
+    → b .interval ≤ 1024 → countable b key v ≡ true
+unfolding countable countIn
+countable-small b key v k h x y s l m =
+    let e = countEntry (b .interval) (countIn b) key v in
+    let z : e .since ≤ b .interval = unfold countEntry in since-most (b .interval) (b .since) l s in
+    rw (le-leb (length key) 1032 k) (fits-all e (omega (arith, entry-bytes (b .interval) (countIn b) key v)) (omega (arith, entry-restarts (b .interval) (countIn b) key v)) (omega arith))
+
+-- and then it is
+pub counted-is : {b : BlockBuilder} {key : List ℕ} {v : ℕ} {r : Counted} → CountedIs b key v r → countable b key v ≡ true → r .block ≡ builderAfter b key v
+counted-is h e = h .block ∙ rw e
+
+-- a builder after an entry holds the counts after it
+pub count-after : (b : BlockBuilder) (key : List ℕ) (v : ℕ) → length key ≤ 1032 → length (b .last) ≡ 1032 → countIn (builderAfter b key v) ≡ countEntry (b .interval) (countIn b) key v
+unfolding countIn builderAfter builderWith countEntry
+count-after b key v h l =
+    let c = countEntry (b .interval) (countIn b) key v in
+    let k : take (length key) (put (b .last) 0 key) ≡ key = rw zero-add at (put-front (b .last) 0 key (omega arith)) in
+    λ i. record { bytes = c .bytes; restarts = c .restarts; since = c .since; last = k i }
+
+-- ---- filters
+
+filter-most : (c : Filtering) (n : ℕ) → filteringFits c ≡ true → filterBytesOf c n ≤ 8 * n + 9
+unfolding filterBytesOf filteringFits filterSize
+filter-most unfiltered n h = omega arith
+filter-most (bitsPerKey b) zero h = omega arith
+filter-most (bitsPerKey b) (suc n) h =
+    let m : suc n * b ≤ suc n * 64 = mul-le-mul-left (suc n) (within-parts 1 64 b h .1) in
+    test (ltb (suc n * b) 64) (λ t. rw (t, filterSize) (omega arith)) (λ t. rw (t, filterSize) (omega arith))
+
+module _ (c : Filtering) (n : ℕ) (f : FilterCount) where
+  pub made-no : n ≤ f .made → f ≡ countMade c n f
+  unfolding countMade
+  made-no h = rw (le-ltb (f .made) n h, countMade)
+
+  pub made-yes : f .made < n → record { bytes = f .bytes + filterBytesOf c (f .waiting); made = n; waiting = 0 } ≡ countMade c n f
+  unfolding countMade
+  made-yes h = rw (lt-ltb (f .made) n h, countMade)
+
+  made-bytes : countMade c n f .bytes ≤ f .bytes + filterBytesOf c (f .waiting)
+  made-bytes = split (f .made) n (λ h. rw (← made-yes h) (omega arith)) (λ h. rw (← made-no h) (omega arith))
+
+  made-made : countMade c n f .made ≤ f .made + n
+  made-made = split (f .made) n (λ h. rw (← made-yes h) (omega arith)) (λ h. rw (← made-no h) (omega arith))
+
+  made-waiting : countMade c n f .waiting ≤ f .waiting
+  made-waiting = split (f .made) n (λ h. rw (← made-yes h) (omega arith)) (λ h. rw (← made-no h) (omega arith))
+
+module _ (c : Filtering) (f : FilterCount) where
+  pub last-no : f .waiting ≡ 0 → f ≡ countLast c f
+  unfolding countLast
+  last-no e = cc
+
+  pub last-yes : (f .waiting ≡ 0 → ⊥) → countMade c (f .made + 1) f ≡ countLast c f
+  unfolding countLast
+  last-yes ne = go (f .waiting) refl
+    where
+      go : (n : ℕ) → f .waiting ≡ n → countMade c (f .made + 1) f ≡ countLast c f
+      go zero e = absurd (ne e)
+      go (suc n) e = rw (add-one (f .made)) (cc)
+
+  last-bytes : countLast c f .bytes ≤ f .bytes + filterBytesOf c (f .waiting)
+  last-bytes = split 0 (f .waiting) (λ h. rw (← last-yes (λ e. omega arith)) (made-bytes c (f .made + 1) f)) (λ h. rw (← last-no (omega arith)) (omega arith))
+
+  last-many : countLast c f .made ≤ 2 * f .made + 1
+  last-many = split 0 (f .waiting) (λ h. rw (← last-yes (λ e. omega arith)) (omega (arith, made-made c (f .made + 1) f))) (λ h. rw (← last-no (omega arith)) (omega arith))
+
+-- the code's own sum
+pub more-bytes : (c : Filtering) (bytes n r : ℕ) → bytes + filterBytesOf c n < 2 ^ 63 → r ≡ min (filterBytesOf c n) (2 ^ 63 + 1) → r ≡ filterBytesOf c n
+more-bytes c bytes n r h e = omega arith
+
+-- ---- a state
+
+module _ (s : Builder) (h : Small s) where
+  size-most : openSize s ≤ 83886084
+  unfolding openSize countSize countIn
+  size-most = omega (arith, h .bytes, h .restarts)
+
+  pub size-exact : {size : ℕ} → size ≡ min (2 ^ 64 - 1) (countSize (countIn (s .pending))) → size ≡ openSize s
+  unfolding openSize
+  size-exact {size} e = omega (arith, size-most)
+
+  pub end-most : {size : ℕ} → size ≡ min (2 ^ 64 - 1) (countSize (countIn (s .pending))) → s .written + size + 5 ≤ 100663305
+  end-most {size} e = omega (arith, h .written, size-most, size-exact e)
+
+  pub filter-room : s .filtered + filterBytesOf (choiceOf (s .options .filter)) (s .waiting) ≤ 150994953
+  filter-room = omega (arith, h .filtered, h .waiting, filter-most (choiceOf (s .options .filter)) (s .waiting) (h .fits))
+
+  module _ (key : List ℕ) (k : length key ≤ 1032) where
+    index-countable : (v : ℕ) → v ≤ 20 → countable (s .indexed) key v ≡ true
+    index-countable v l =
+        countable-small (s .indexed) key v k (omega arith) (omega (arith, h .indexBytes)) (omega (arith, h .indexRestarts))
+        (omega (arith, h .indexSince, h .indexInterval)) (omega (arith, h .least, h .indexInterval)) (omega (arith, h .most, h .indexInterval))
+
+    pub closed-is : {size a b : ℕ} {r : Counted} {f : FilterSizes} {e : BlockBuilder}
+        → size ≡ min (2 ^ 64 - 1) (countSize (countIn (s .pending))) → a ≡ length (varintBytes (s .written)) → b ≡ length (varintBytes size)
+        → CountedIs (s .indexed) key (a + b) r
+        → filterCountIn f ≡ countMade (choiceOf (s .options .filter)) ((s .written + size + 5) / 2048) (record { bytes = s .filtered; made = s .made; waiting = s .waiting })
+        → e ≡ newBuilder (s .options .interval)
+        → _≡_ {A = Builder}
+        (record {
+          options = s .options;
+          lengths = s .lengths;
+          written = s .written + size + 5;
+          pending = e;
+          indexed = r .block;
+          filtered = f .bytes;
+          made = f .made;
+          waiting = f .waiting;
+          finished = s .finished;
+        })
+        (closedState s key)
+    unfolding closedState endsAt filtersThen countUpTo filtersIn filterCountIn handleSize
+    closed-is {size} {a} {b} {r} {f} {e} es ea eb ec ef ee =
+        let x : size ≡ openSize s = size-exact es in
+        let v : a + b ≡ varintSize (s .written) + varintSize (openSize s) = ap₂ _+_ ea (eb ∙ ap (λ (n : ℕ). length (varintBytes n)) x) in
+        let i = counted-is ec (index-countable (a + b) (omega (arith, varint-bytes-length (s .written), varint-bytes-length size))) ∙ ap (builderAfter (s .indexed) key) v in
+        let g = ef ∙ ap (λ (n : ℕ). countMade (choiceOf (s .options .filter)) ((s .written + n + 5) / 2048) (record { bytes = s .filtered; made = s .made; waiting = s .waiting })) x in
+        λ j. record {
+          options = s .options;
+          lengths = s .lengths;
+          written = s .written + x j + 5;
+          pending = ee j;
+          indexed = i j;
+          filtered = g j .bytes;
+          made = g j .made;
+          waiting = g j .waiting;
+          finished = s .finished;
+        }
+
+-- ---- one entry more
+
+pub entered-is : (s : Builder) (key : List ℕ) (v : ℕ) → Roomy s (length key) v → {r : Counted} → CountedIs (s .pending) key v r
+    → _≡_ {A = Builder}
+    (record {
+      options = s .options;
+      lengths = s .lengths;
+      written = s .written;
+      pending = r .block;
+      indexed = s .indexed;
+      filtered = s .filtered;
+      made = s .made;
+      waiting = s .waiting + 1;
+      finished = s .finished;
+    })
+    (enteredState s key v)
+unfolding enteredState
+entered-is s key v h e =
+    rw (counted-is e (countable-small (s .pending) key v (h .key) (omega (arith, h .value)) (omega (arith, h .bytes)) (omega (arith, h .restarts)) (h .since) (h .least) (h .most)))
+
+-- ---- the end
+
+module _ (s : Builder) where
+  pub last-none : s .pending .restarts ≡ 0 → s ≡ lastState s
+  unfolding lastState
+  last-none e = cc
+
+  pub last-some : (s .pending .restarts ≡ 0 → ⊥) → closedState s (lastOf s) ≡ lastState s
+  unfolding lastState
+  last-some ne = go (s .pending .restarts) refl
+    where
+      go : (n : ℕ) → s .pending .restarts ≡ n → closedState s (lastOf s) ≡ lastState s
+      go zero e = absurd (ne e)
+      go (suc n) e = cc
+
+-- what the numbers of a closed state are at most
+pub record Bounded (d : Builder) : Type 0 where
+  pub written : d .written ≤ 1073741824
+  pub indexBytes : d .indexed .bytes ≤ 1073741824
+  pub indexRestarts : d .indexed .restarts ≤ 1073741824
+  pub filtered : d .filtered ≤ 1073741824
+  pub made : d .made ≤ 1073741824
+  pub waiting : d .waiting ≤ 16777216
+
+module _ (s : Builder) (h : Small s) where
+  bounded-same : Bounded s
+  bounded-same = omega (arith, h .written, h .indexBytes, h .indexRestarts, h .filtered, h .made, h .waiting)
+
+  pub bounded-closed : (key : List ℕ) → length key ≤ 1032 → Bounded (closedState s key)
+  unfolding closedState endsAt filtersThen countUpTo filtersIn builderAfter builderWith handleSize countIn
+  bounded-closed key k =
+      let c = choiceOf (s .options .filter) in
+      let f : FilterCount = record { bytes = s .filtered; made = s .made; waiting = s .waiting } in
+      let n = (s .written + openSize s + 5) / 2048 in
+      let v = varintSize (s .written) + varintSize (openSize s) in
+      let w : v ≤ 20 = omega (arith, varint-bytes-length (s .written), varint-bytes-length (openSize s)) in
+      let x = size-most s h in
+      record {
+        written = omega (arith, h .written);
+        indexBytes = omega (arith, h .indexBytes, entry-bytes (s .indexed .interval) (countIn (s .indexed)) key v);
+        indexRestarts = omega (arith, h .indexRestarts, entry-restarts (s .indexed .interval) (countIn (s .indexed)) key v);
+        filtered = omega (arith, made-bytes c n f, filter-room s h);
+        made = omega (arith, h .made, h .written, made-made c n f);
+        waiting = omega (arith, h .waiting, made-waiting c n f);
+      }
+
+  pub bounded-last : length (lastOf s) ≤ 1032 → {d : Builder} → d ≡ lastState s → Bounded d
+  bounded-last k {d} e =
+      split 0 (s .pending .restarts)
+      (λ l. rw (e, ← last-some s (λ z. omega arith)) (bounded-closed (lastOf s) k))
+      (λ l. rw (e, ← last-none s (omega arith)) bounded-same)
+
+-- ---- the counts move as the definitions say
+
+new-counts : (i : ℕ) → countIn (newBuilder i) ≡ noEntries i
+new-counts i = counting-none i .counts ∙ count-none i
+
+module _ (s : Builder) (h : Small s) (w : Whole s) where
+  abbrev o : Options
+  o = optionsOf (s .options)
+
+  pub closed-counts : (key : List ℕ) → length key ≤ 1032 → countsIn (closedState s key) ≡ countClose o key (countsIn s)
+  unfolding countsIn closedState countClose optionsOf indexInterval endsAt openSize filtersThen filtersIn
+  closed-counts key k =
+      let n = s .options .interval in
+      let v = handleSize (s .written) (countSize (countIn (s .pending))) in
+      let x = count-after (s .indexed) key v k (w .indexed) ∙ ap (λ (j : ℕ). countEntry j (countIn (s .indexed)) key v) (h .indexInterval) in
+      λ j. record {
+        written = s .written + countSize (countIn (s .pending)) + 5;
+        openBlock = new-counts n j;
+        index = x j;
+        filters = countUpTo (choiceOf (s .options .filter)) (s .written + countSize (countIn (s .pending)) + 5) (record { bytes = s .filtered; made = s .made; waiting = s .waiting });
+      }
+
+  pub last-counts : length (lastOf s) ≤ 1032 → countsIn (lastState s) ≡ countCloseLast o (countsIn s)
+  unfolding countCloseLast countsIn countIn lastOf
+  last-counts k = go (s .pending .restarts) refl
+    where
+      go : (n : ℕ) → s .pending .restarts ≡ n → countsIn (lastState s) ≡ countCloseLast o (countsIn s)
+      go zero e = rw (← last-none s e) (cc)
+      go (suc n) e = rw (← last-some s (λ z. omega arith)) (closed-counts (lastOf s) k ∙ (cc))
+
+  total : (d : Builder) (f : FilterSizes) (meta index : ℕ) → index ≡ countSize (countIn (d .indexed))
+      → filterBlockSize (countLast (choiceOf (s .options .filter)) (countsIn d .filters)) ≡ f .bytes + 4 * f .made + 5
+      → meta ≡ metaSize o (countsIn d .written) (filterBlockSize (countLast (choiceOf (s .options .filter)) (countsIn d .filters)))
+      → d .written + (f .bytes + 4 * f .made + 5 + 5) + (meta + 5) + (index + 5) + 48
+      ≡ (let b = countLast (o .filtering) (countsIn d .filters) in
+      countsIn d .written + (filterBlockSize b + 5) + (metaSize o (countsIn d .written) (filterBlockSize b) + 5) + (countSize (countsIn d .index) + 5) + 48)
+  unfolding countsIn optionsOf
+  total d f meta index i g m = omega (arith, i, g, m)
+
+  block-size : (c : Filtering) (d : Builder) (f : FilterSizes) → filterCountIn f ≡ countLast c (record { bytes = d .filtered; made = d .made; waiting = d .waiting })
+      → filterBlockSize (countLast c (countsIn d .filters)) ≡ f .bytes + 4 * f .made + 5
+  unfolding countsIn filterBlockSize filterCountIn
+  block-size c d f ef = sym (ap filterBlockSize ef)
+
+  pub finished-is : length (lastOf s) ≤ 1032 → (d : Builder) (f : FilterSizes) {meta index : ℕ} → d ≡ lastState s
+      → filterCountIn f ≡ countLast (choiceOf (s .options .filter)) (record { bytes = d .filtered; made = d .made; waiting = d .waiting })
+      → meta ≡ metaLen (choiceOf (s .options .filter)) (d .written) (f .bytes + 4 * f .made + 5)
+      → index ≡ min (2 ^ 64 - 1) (countSize (countIn (d .indexed)))
+      → d .written + (f .bytes + 4 * f .made + 5 + 5) + (meta + 5) + (index + 5) + 48 ≡ finishedSize o (countsIn s)
+  unfolding finishedSize
+  finished-is k d f {meta} {index} e ef em ei =
+      let b = bounded-last s h k e in
+      let c = choiceOf (s .options .filter) in
+      let i : index ≡ countSize (countIn (d .indexed)) = unfold countSize countIn in omega (arith, b .indexBytes, b .indexRestarts) in
+      let q : countsIn d ≡ countCloseLast o (countsIn s) = rw e (last-counts k) in
+      let g = block-size c d f ef in
+      let m : meta ≡ metaSize o (countsIn d .written) (filterBlockSize (countLast c (countsIn d .filters))) = unfold metaSize metaLen optionsOf countsIn in em ∙ ap (λ (n : ℕ). metaLen c (d .written) n) (sym g) in
+      rw (← q) (total d f meta index i g m)
+
+module _ (s : Builder) (h : Small s) where
+  -- its sums have 64 bits
+  pub last-room : length (lastOf s) ≤ 1032 → (d : Builder) → d ≡ lastState s
+      → (d .filtered + filterBytesOf (choiceOf (s .options .filter)) (d .waiting) ≤ 1207959561) × (d .made ≤ 1073741824)
+  last-room k d e =
+      let b = bounded-last s h k e in
+      (omega (arith, b .filtered, b .waiting, filter-most (choiceOf (s .options .filter)) (d .waiting) (h .fits)), b .made)
+
+  pub last-sizes : length (lastOf s) ≤ 1032 → (d : Builder) (f : FilterSizes) → d ≡ lastState s
+      → filterCountIn f ≡ countLast (choiceOf (s .options .filter)) (record { bytes = d .filtered; made = d .made; waiting = d .waiting })
+      → (f .bytes ≤ 1207959561) × (f .made ≤ 2147483649) × (d .written ≤ 1073741824) × (countSize (countIn (d .indexed)) ≤ 5368709124)
+  unfolding filterCountIn countSize countIn
+  last-sizes k d f e ef =
+      let c = choiceOf (s .options .filter) in
+      let q : FilterCount = record { bytes = d .filtered; made = d .made; waiting = d .waiting } in
+      let b = bounded-last s h k e in
+      let r = last-room k d e in
+      let x : f .bytes ≤ 1207959561 = omega (arith, ap (λ (z : FilterCount). z .bytes) ef, last-bytes c q) in
+      let y : f .made ≤ 2147483649 = omega (arith, ap (λ (z : FilterCount). z .made) ef, last-many c q) in
+      (x, y, b .written, omega (arith, b .indexBytes, b .indexRestarts))
+
+-- the name and the metaindex's size
+pub meta-is : (c : Filtering) (offset size a b n x y : ℕ) → a ≡ varintSize offset → b ≡ varintSize size → n ≡ length (metaName c) → x ≡ varintSize n → y ≡ varintSize (a + b)
+    → 1 + x + y + n + (a + b) + 8 ≡ metaLen c offset size
+unfolding metaLen entrySize handleSize
+meta-is c offset size a b n x y ea eb en ex ey =
+    let u : varintSize 0 ≡ 1 = unfold varintBytes varintBytesF in refl in
+    let v : x ≡ varintSize (length (metaName c)) = ex ∙ ap (λ (m : ℕ). length (varintBytes m)) en in
+    let w : y ≡ varintSize (varintSize offset + varintSize size) = ey ∙ ap (λ (m : ℕ). length (varintBytes m)) (ap₂ _+_ ea eb) in
+    let z : length (metaName c) - 0 ≡ length (metaName c) = omega arith in
+    let t : varintSize (length (metaName c) - 0) ≡ varintSize (length (metaName c)) = ap (λ (m : ℕ). length (varintBytes m)) z in
+    omega (arith, ea, eb, en, u, v, w, t)
+
+pub name-most : (c : Filtering) → length (metaName c) ≤ 35
+unfolding metaName bloomName
+name-most unfiltered = omega arith
+name-most (bitsPerKey b) = omega arith
+
+pub name-some : (f : FilterEnum.Filter) (b : ℕ) → f ≡ FilterCase.Bits b → 34 ≡ length (metaName (choiceOf f))
+unfolding metaName choiceOf bloomName
+name-some f b e = rw e
+
+-- ---- what the tests say
+
+pub small-is : (s : Builder) → optionsFit (optionsOf (s .options)) ≡ true → small s ≡ true → Small s
+unfolding small optionsFit optionsOf
+small-is s f e =
+    let x1 = both (eqb (s .pending .interval) (s .options .interval)) _ e in
+    let x2 = both (eqb (s .indexed .interval) (s .options .interval)) _ (x1 .1) in
+    let x3 = both (leb (s .pending .since) (s .options .interval)) _ (x2 .1) in
+    let x4 = both (leb (s .indexed .since) (s .options .interval)) _ (x3 .1) in
+    let x5 = both (leb (s .written) 16777216) _ (x4 .1) in
+    let x6 = both (leb (s .pending .bytes) 16777216) _ (x5 .1) in
+    let x7 = both (leb (s .pending .restarts) 16777216) _ (x6 .1) in
+    let x8 = both (leb (s .indexed .bytes) 16777216) _ (x7 .1) in
+    let x9 = both (leb (s .indexed .restarts) 16777216) _ (x8 .1) in
+    let xa = both (leb (s .filtered) 16777216) _ (x9 .1) in
+    let xb = both (leb (s .made) 16777216) _ (xa .1) in
+    let y1 = both (within 1 1024 (s .options .interval)) _ f in
+    let y2 = both (within 8 65536 (s .options .«block_size»)) _ (y1 .1) in
+    let w = within-parts 1 1024 (s .options .interval) (y1 .0) in
+    record {
+      interval = eqb-true _ _ (x1 .0);
+      indexInterval = eqb-true _ _ (x2 .0);
+      least = w .0;
+      most = w .1;
+      fits = y2 .1;
+      since = leb-true _ _ (x3 .0);
+      indexSince = leb-true _ _ (x4 .0);
+      written = leb-true _ _ (x5 .0);
+      bytes = leb-true _ _ (x6 .0);
+      restarts = leb-true _ _ (x7 .0);
+      indexBytes = leb-true _ _ (x8 .0);
+      indexRestarts = leb-true _ _ (x9 .0);
+      filtered = leb-true _ _ (xa .0);
+      made = leb-true _ _ (xb .0);
+      waiting = leb-true _ _ (xb .1);
+    }

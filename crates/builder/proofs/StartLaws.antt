@@ -1,0 +1,99 @@
+-- What start answers, and that what it gives stands for nothing added yet.
+use Prim.Native.Nat.{ℕ}
+use mathlib.Core.Path.{_≡_, refl, sym, ap, _∙_}
+use mathlib.Core.List.{List, []}
+use mathlib.Core.Bool.{Bool, true, false, _&&_}
+use native.Mathlib.Omega.{arith}
+use lib.ListN.{length, length-replicate}
+use Rattle.codec.proofs.Prelude.{test, both}
+use Rattle.block.specs.Builder.{newBuilder, Counting}
+use Rattle.block.specs.Block.{packed, restartsOf}
+use Rattle.block.specs.Count.{noEntries}
+use Rattle.block.proofs.BuilderLaws.{counting-none}
+use Rattle.block.proofs.CountLaws.{count-none}
+use Rattle.filter.specs.Choice.{choiceOf}
+use Rattle.filter.specs.FilterBlock.{noFilters, wait, madeBytes, starts}
+use Rattle.table.specs.Checked.{Checked, pass, refuse, _>>=_, ask}
+use Rattle.table.specs.Options.{Options, indexInterval, optionsFit}
+use Rattle.table.specs.Build.{begin, written, indexPairs, filtersOf}
+use Rattle.table.specs.Runs.{Runs, filtersNow, entriesOf, restartsIn, held, between, overlay, overlaid, startOf}
+use Rattle.table.specs.Counts.{Counts, countsOf, noCounts}
+use Rattle.table.proofs.CheckedLaws.{refuse-pass}
+use Rattle.table.proofs.CountsLaws.{counts-begin}
+use Rattle.builder.specs.declared.table_builder.Answer.the-variants as AnswerCase
+use Rattle.builder.specs.declared.table_builder.Options as Given
+use Rattle.builder.specs.declared.table_builder.Builder.{Builder}
+use Rattle.builder.specs.State.{optionsOf, countsIn, lengthsOf, runsFit, begun, noBuilder, Stands}
+use Rattle.builder.specs.Answers.{answerOf, startState, StartedIs}
+
+-- tests one after the other that refuse with one number are one test
+ask-both : (n : ℕ) (s t : Bool) → ask n s >>= (λ u. ask n t) ≡ ask n (s && t)
+unfolding ask _>>=_
+ask-both n true t = refl
+ask-both n false t = refl
+
+module _ (n : ℕ) where
+  ask-four : (s t u v : Bool) → ask n s >>= (λ x. ask n t >>= (λ y. ask n u >>= (λ z. ask n v))) ≡ ask n (s && (t && (u && v)))
+  unfolding ask _>>=_
+  ask-four true true true v = refl
+  ask-four true true false v = refl
+  ask-four true false u v = refl
+  ask-four false t u v = refl
+
+module _ (o : Given.Options) (r : Runs) where
+  pub start-is : startOf (optionsOf o) r ≡ ask 1 (optionsFit (optionsOf o)) >>= (λ u. ask 2 (runsFit (choiceOf (o .filter)) (lengthsOf r)))
+  unfolding startOf runsFit lengthsOf optionsOf
+  start-is = ap (λ (k : Checked (Unit {0})). ask 1 (optionsFit (optionsOf o)) >>= (λ u. k)) (ask-four 2 _ _ _ _)
+
+  start-options : optionsFit (optionsOf o) ≡ false → startOf (optionsOf o) r ≡ refuse 1
+  unfolding ask _>>=_
+  start-options e = start-is ∙ rw e
+
+  start-runs : optionsFit (optionsOf o) ≡ true → runsFit (choiceOf (o .filter)) (lengthsOf r) ≡ false → startOf (optionsOf o) r ≡ refuse 2
+  unfolding ask _>>=_
+  start-runs e f = start-is ∙ rw (e, f)
+
+  start-passes : optionsFit (optionsOf o) ≡ true → runsFit (choiceOf (o .filter)) (lengthsOf r) ≡ true → startOf (optionsOf o) r ≡ pass tt
+  unfolding ask _>>=_
+  start-passes e f = start-is ∙ rw (e, f)
+
+  begun-counts : countsIn (begun o (lengthsOf r)) ≡ noCounts (optionsOf o)
+  unfolding begun countsIn noCounts optionsOf indexInterval
+  begun-counts =
+      let e = counting-none (o .interval) .counts ∙ count-none (o .interval) in
+      rw e
+
+  -- nothing stands in front of each run
+  begun-runs : r ≡ overlaid (between (optionsOf o) begin) r
+  unfolding overlaid overlay between begin held written entriesOf restartsIn indexPairs packed restartsOf filtersNow filtersOf noFilters wait madeBytes starts
+  begun-runs = refl
+
+  pub begun-stands : startOf (optionsOf o) r ≡ pass tt → Stands (optionsOf o) begin (begun o (lengthsOf r)) r
+  unfolding begun newBuilder optionsOf indexInterval
+  begun-stands e =
+      record {
+        options = refl;
+        counts = begun-counts ∙ sym (counts-begin (optionsOf o));
+        interval = refl;
+        indexInterval = refl;
+        whole = (length-replicate {A = ℕ} 1032 0, length-replicate {A = ℕ} 1032 0);
+        lengths = refl;
+        going = refl;
+        started = e;
+        runs = begun-runs;
+      }
+
+  pub refused-options : {t : Bool} {s : Builder} → t ≡ optionsFit (optionsOf o) → t ≡ false → s ≡ noBuilder
+      → StartedIs o r r (record { answer = AnswerCase.Refused 1; state = s })
+  unfolding answerOf startState
+  refused-options e f g = let h = start-options (sym e ∙ f) in record { answer = rw h; state = rw h g; kept = refl; stands = λ p. absurd (refuse-pass (sym h ∙ p)) }
+
+  pub refused-runs : {t u : Bool} {s : Builder} → t ≡ optionsFit (optionsOf o) → t ≡ true → u ≡ runsFit (choiceOf (o .filter)) (lengthsOf r) → u ≡ false → s ≡ noBuilder
+      → StartedIs o r r (record { answer = AnswerCase.Refused 2; state = s })
+  unfolding answerOf startState
+  refused-runs e f e′ f′ g = let h = start-runs (sym e ∙ f) (sym e′ ∙ f′) in record { answer = rw h; state = rw h g; kept = refl; stands = λ p. absurd (refuse-pass (sym h ∙ p)) }
+
+  pub passed-start : {t u : Bool} {s : Builder} → t ≡ optionsFit (optionsOf o) → t ≡ true → u ≡ runsFit (choiceOf (o .filter)) (lengthsOf r) → u ≡ true → s ≡ begun o (lengthsOf r)
+      → StartedIs o r r (record { answer = AnswerCase.Ok; state = s })
+  unfolding answerOf startState
+  passed-start e f e′ f′ g = let h = start-passes (sym e ∙ f) (sym e′ ∙ f′) in record { answer = rw h; state = rw h g; kept = refl; stands = λ p. rw g (begun-stands p) }

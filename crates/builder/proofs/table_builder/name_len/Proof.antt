@@ -1,0 +1,23 @@
+-- `builder::table_builder::name_len` meets its contract.
+use Rattle.builder.proofs.SizeLaws.{name-some}
+use Rattle.filter.specs.Choice.{choiceOf}
+use Rattle.table.specs.Build.{metaName}
+use borrow.Author.Needs.{needs}
+use Rattle.builder.proofs.table_builder.name_len.Statement.{statement}
+use Rattle.builder.proofs.table_builder.name_len.Tie as tie
+
+enum-told : tie.Need-enum-told
+enum-told c = search needs
+
+enum-told-2 : tie.Need-enum-told-2
+enum-told-2 c = search needs
+
+returns : tie.Need-returns
+unfolding metaName choiceOf
+returns c = cc
+
+returns-2 : tie.Need-returns-2
+returns-2 c = name-some _ _ (c .enum-told2 .given .1)
+
+pub name-len-spec : {M : Type 1} → statement M
+name-len-spec = tie.close (tie.spec enum-told enum-told-2 returns returns-2)

@@ -1,0 +1,180 @@
+-- How the builder's private functions move a state, in numbers.
+use Prim.Native.Nat.{ℕ, zero, suc, _+_, _≤_}
+use mathlib.Core.Path.{_≡_}
+use mathlib.Core.List.{List}
+use mathlib.Core.Logic.{_⊎_}
+use mathlib.Core.Bool.{Bool, true, false, _&&_, cond}
+use lib.Dec.{eqb, leb, ltb}
+use lib.ListN.{length, take}
+use Rattle.keys.specs.Order.{below, separator}
+use Rattle.block.specs.Count.{entrySize, countSize}
+use Rattle.block.specs.Builder.{countIn, newBuilder, builderAfter}
+use Rattle.filter.specs.FilterBlock.{Filtering}
+use Rattle.filter.specs.FilterCount.{FilterCount, countUpTo}
+use Rattle.filter.specs.Choice.{choiceOf}
+use Rattle.table.specs.Options.{filteringFits}
+use Rattle.table.specs.Build.{metaName}
+use Rattle.table.specs.Runs.{roomOf}
+use Rattle.table.specs.Counts.{handleSize, finishedSize}
+use Rattle.builder.specs.declared.table_builder.Lengths.{Lengths}
+use Rattle.builder.specs.declared.table_builder.Builder.{Builder}
+use Rattle.builder.specs.declared.table_builder.Plan.{Plan}
+use Rattle.builder.specs.declared.table_builder.FilterSizes.{FilterSizes}
+use Rattle.builder.specs.State.{optionsOf, countsIn, sane}
+
+-- the counts are those that a table within the limit can have
+unfoldable pub small : Builder → Bool
+small s =
+    eqb (s .pending .interval) (s .options .interval)
+    && (eqb (s .indexed .interval) (s .options .interval)
+    && (leb (s .pending .since) (s .options .interval)
+    && (leb (s .indexed .since) (s .options .interval)
+    && (leb (s .written) 16777216
+    && (leb (s .pending .bytes) 16777216
+    && (leb (s .pending .restarts) 16777216
+    && (leb (s .indexed .bytes) 16777216
+    && (leb (s .indexed .restarts) 16777216 && (leb (s .filtered) 16777216 && (leb (s .made) 16777216 && leb (s .waiting) 16777216))))))))))
+
+-- and its options are within the limits
+pub record Small (s : Builder) : Type 0 where
+  pub interval : s .pending .interval ≡ s .options .interval
+  pub indexInterval : s .indexed .interval ≡ s .options .interval
+  pub least : 1 ≤ s .options .interval
+  pub most : s .options .interval ≤ 1024
+  pub fits : filteringFits (choiceOf (s .options .filter)) ≡ true
+  pub since : s .pending .since ≤ s .options .interval
+  pub indexSince : s .indexed .since ≤ s .options .interval
+  pub written : s .written ≤ 16777216
+  pub bytes : s .pending .bytes ≤ 16777216
+  pub restarts : s .pending .restarts ≤ 16777216
+  pub indexBytes : s .indexed .bytes ≤ 16777216
+  pub indexRestarts : s .indexed .restarts ≤ 16777216
+  pub filtered : s .filtered ≤ 16777216
+  pub made : s .made ≤ 16777216
+  pub waiting : s .waiting ≤ 16777216
+
+-- the filters' counts
+unfoldable pub filterCountIn : FilterSizes → FilterCount
+filterCountIn f = record { bytes = f .bytes; made = f .made; waiting = f .waiting }
+
+-- the filters' counts of a state
+unfoldable pub filtersIn : Builder → FilterCount
+filtersIn s = record { bytes = s .filtered; made = s .made; waiting = s .waiting }
+
+-- the open block's bytes, were it finished now
+unfoldable pub openSize : Builder → ℕ
+openSize s = countSize (countIn (s .pending))
+
+-- the open block's last key
+unfoldable pub lastOf : Builder → List ℕ
+lastOf s = take (s .pending .len) (s .pending .last)
+
+-- where the open block ends, were it closed now
+unfoldable pub endsAt : Builder → ℕ
+endsAt s = s .written + openSize s + 5
+
+-- the filters then
+unfoldable pub filtersThen : Builder → FilterCount
+filtersThen s = countUpTo (choiceOf (s .options .filter)) (endsAt s) (filtersIn s)
+
+-- the open block closed, and indexed under a key
+unfoldable pub closedState : Builder → List ℕ → Builder
+closedState s key =
+    record {
+      options = s .options;
+      lengths = s .lengths;
+      written = endsAt s;
+      pending = newBuilder (s .options .interval);
+      indexed = builderAfter (s .indexed) key (handleSize (s .written) (openSize s));
+      filtered = filtersThen s .bytes;
+      made = filtersThen s .made;
+      waiting = filtersThen s .waiting;
+      finished = s .finished;
+    }
+
+-- one entry more can be counted, of a key and a value of so many bytes
+pub record Roomy (s : Builder) (k v : ℕ) : Type 0 where
+  pub key : k ≤ 1032
+  pub value : v ≤ 32768
+  pub least : 1 ≤ s .pending .interval
+  pub most : s .pending .interval ≤ 1024
+  pub since : s .pending .since ≤ s .pending .interval
+  pub bytes : s .pending .bytes ≤ 16777216
+  pub restarts : s .pending .restarts ≤ 16777216
+  pub waiting : s .waiting ≤ 16777216
+
+-- one entry more in the open block
+unfoldable pub enteredState : Builder → List ℕ → ℕ → Builder
+enteredState s key value =
+    record {
+      options = s .options;
+      lengths = s .lengths;
+      written = s .written;
+      pending = builderAfter (s .pending) key value;
+      indexed = s .indexed;
+      filtered = s .filtered;
+      made = s .made;
+      waiting = s .waiting + 1;
+      finished = s .finished;
+    }
+
+-- at the end: a pending block closed, and indexed under its last key
+unfoldable pub lastState : Builder → Builder
+lastState s = elim (s .pending .restarts) [ zero ↦ s | suc n ↦ closedState s (lastOf s) ]
+
+-- both last keys' arrays are whole
+pub record Whole (s : Builder) : Type 0 where
+  pub pending : length (s .pending .last) ≡ 1032
+  pub indexed : length (s .indexed .last) ≡ 1032
+
+-- the metaindex block's bytes
+unfoldable pub metaLen : Filtering → ℕ → ℕ → ℕ
+metaLen c offset size = entrySize 0 (length (metaName c)) (handleSize offset size) + 8
+
+-- ---- an addition
+
+-- the refusals 6, 2 and 3 of a state, runs of such lengths, and an addition that fits or does not; else 0
+unfoldable pub earlyOf : Builder → Lengths → Bool → ℕ
+earlyOf s l fits = cond (s .finished) 6 (cond (sane s l) (cond fits 0 3) 2)
+
+-- a key is above the last one of the open block
+unfoldable pub aboveLast : Builder → List ℕ → Bool
+aboveLast s key = cond (eqb (s .pending .restarts) 0) true (below (lastOf s) key)
+
+-- the open block is over the block size
+unfoldable pub cutOf : Builder → Bool
+cutOf s = ltb (s .options .«block_size») (openSize s)
+
+-- the key it is then indexed under, before a key
+unfoldable pub sepOf : Builder → List ℕ → List ℕ
+sepOf s key = separator (lastOf s) key
+
+-- the state after a cut before a key, if there is one
+unfoldable pub midOf : Builder → List ℕ → Builder
+midOf s key = cond (cutOf s) (closedState s (sepOf s key)) s
+
+-- the state with an entry more
+unfoldable pub nextOf : Builder → List ℕ → ℕ → Builder
+nextOf s key value = enteredState (midOf s key) key value
+
+-- a state that a table within the room can have
+unfoldable pub fitsOf : Builder → Lengths → Bool
+fitsOf s l = sane s l && (small s && leb (finishedSize (optionsOf (s .options)) (countsIn s)) (roomOf (l .out)))
+
+-- what is decided of an entry: 4, 5, or 0
+unfoldable pub decideOf : Builder → Lengths → List ℕ → ℕ → ℕ
+decideOf s l key value = cond (small s) (cond (aboveLast s key) (cond (fitsOf (nextOf s key value) l) 0 5) 4) 5
+
+-- a state of such runs, and an entry within the limits
+pub record Ready (s : Builder) (l : Lengths) (k v : ℕ) : Type 0 where
+  pub sound : sane s l ≡ true
+  pub key : k ≤ 1032
+  pub value : v ≤ 32768
+
+-- deciding answers p
+pub record DecidedIs (s : Builder) (l : Lengths) (key : List ℕ) (value : ℕ) (p : Plan) : Type 0 where
+  pub kind : (p .answer ≡ 0) ⊎ ((p .answer ≡ 4) ⊎ (p .answer ≡ 5))
+  pub answer : Whole (nextOf s key value) → p .answer ≡ decideOf s l key value
+  pub mid : p .answer ≡ 0 → p .mid ≡ midOf s key
+  pub next : p .answer ≡ 0 → p .next ≡ nextOf s key value
+  pub small : p .answer ≡ 0 → Small s

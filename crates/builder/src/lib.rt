@@ -1,0 +1,2 @@
+// Building a table, addition by addition, over lent runs.
+pub mod table_builder;

@@ -1,0 +1,583 @@
+// A table being built: data blocks and index, filters and hashes lie in seven lent runs. The builder itself is a value: the
+// options, the runs' lengths and counts. Everything is decided from these before anything is written.
+ghost use mathlib.Core.Path.{_≡_};
+ghost use mathlib.Core.Bool.{_&&_};
+ghost use Prim.Native.Nat.{_+_, _^_, _≤_, _<_};
+ghost use lib.Dec.{eqb, leb};
+ghost use lib.ListN.{length, take};
+ghost use Rattle.block.specs.Formed.{within};
+ghost use Rattle.filter.specs.Choice.{choiceOf};
+ghost use Rattle.filter.specs.FilterCount.{filterBytesOf, countMade, countLast};
+ghost use Rattle.keys.specs.Order.{below, separator};
+ghost use Rattle.table.specs.Options.{optionsFit, filteringFits, emptySize, additionFits};
+ghost use Rattle.table.specs.Build.{metaName};
+ghost use Rattle.table.specs.Runs.{roomOf};
+ghost use Rattle.table.specs.Counts.{finishedSize};
+ghost use Rattle.builder.specs.State.{optionsOf, countsIn, seven, runsFit, sameLengths, sizesFit, sane, begun, noBuilder};
+ghost use Rattle.builder.specs.Answers.{StartedIs};
+ghost use Rattle.builder.specs.Steps.{small, Small, filterCountIn, closedState, lastOf, Roomy, enteredState, lastState, metaLen, Whole, cutOf, midOf, aboveLast, fitsOf, earlyOf, Ready, DecidedIs};
+use block::block_builder::BlockBuilder;
+use codec::put::Written;
+use codec::varint::varint_len;
+use filter::filter::Filter;
+use keys::cmp::Ordering;
+
+// Restart interval, block size and filter choice.
+pub struct Options {
+    pub block_size: usize,
+    pub interval: usize,
+    pub filter: Filter,
+}
+
+// The lengths of the seven runs.
+pub struct Lengths {
+    pub out: usize,
+    pub index: usize,
+    pub filters: usize,
+    pub restarts: usize,
+    pub index_restarts: usize,
+    pub offsets: usize,
+    pub hashes: usize,
+}
+
+// The options and the runs' lengths given at start; the bytes written; the open data block and the index block; the bytes of
+// the filters made and their number; the hashes that wait; whether the table is finished.
+pub struct Builder {
+    pub options: Options,
+    pub lengths: Lengths,
+    pub written: usize,
+    pub pending: BlockBuilder,
+    pub indexed: BlockBuilder,
+    pub filtered: usize,
+    pub made: usize,
+    pub waiting: usize,
+    pub finished: bool,
+}
+
+// What start and add answer: that it is done, or the refusal's number.
+pub enum Answer {
+    Ok,
+    Refused(u32),
+}
+
+// Start's answer, and the state to go on with.
+pub struct Started {
+    pub answer: Answer,
+    pub state: Builder,
+}
+
+// Both of two tests.
+fn both(a: bool, b: bool) -> bool
+    ensures { λ r. ⌜ r ≡ a && b ⌝ }
+{
+    if a { b } else { false }
+}
+
+// Whether a number is between two others.
+fn between(low: usize, high: usize, x: usize) -> bool
+    ensures { λ r. ⌜ r ≡ within low high x ⌝ }
+{
+    both(low <= x, x <= high)
+}
+
+// Whether a sum is at most n.
+fn sum_fits(a: usize, b: usize, n: usize) -> bool
+    ensures { λ r. ⌜ r ≡ leb (a + b) n ⌝ }
+{
+    if n < a {
+        return false;
+    }
+    b <= n - a
+}
+
+// The most bytes that a table has in an output of n bytes.
+fn room(n: usize) -> usize
+    ensures { λ r. ⌜ r ≡ roomOf n ⌝ }
+{
+    keys::cmp::least(16777216, n)
+}
+
+// Whether a filter choice is within the limits.
+fn filter_fits(f: Filter) -> bool
+    ensures { λ r. ⌜ r ≡ filteringFits (choiceOf f) ⌝ }
+{
+    match f {
+        Filter::None => true,
+        Filter::Bits(b) => between(1, 64, b as usize),
+    }
+}
+
+// The empty table's bytes.
+fn empty_size(f: Filter) -> usize
+    ensures { λ r. ⌜ r ≡ emptySize (choiceOf f) ⌝ }
+{
+    match f {
+        Filter::None => 97,
+        Filter::Bits(_) => 123,
+    }
+}
+
+// Whether options are within the limits.
+fn options_fit(o: Options) -> bool
+    ensures { λ r. ⌜ r ≡ optionsFit (optionsOf o) ⌝ }
+{
+    let f = o.filter;
+    let b = both(between(8, 65536, o.block_size), filter_fits(f));
+    both(between(1, 1024, o.interval), b)
+}
+
+// Whether runs of such lengths are long enough to start with.
+fn runs_fit(f: Filter, l: Lengths) -> bool
+    ensures { λ r. ⌜ r ≡ runsFit (choiceOf f) l ⌝ }
+{
+    let n = room(l.out);
+    let bytes = both(n <= l.index, n <= l.filters);
+    let restarts = both(n / 4 <= l.restarts, n / 4 <= l.index_restarts);
+    let rest = both(n / 4 <= l.offsets, n / 4 <= l.hashes);
+    both(empty_size(f) <= l.out, both(bytes, both(restarts, rest)))
+}
+
+// The state of nothing added yet.
+fn begun(options: Options, lengths: Lengths) -> Builder
+    ensures { λ r. ⌜ r ≡ begun options lengths ⌝ }
+{
+    let pending = BlockBuilder::new(options.interval);
+    Builder {
+        options: options,
+        lengths: lengths,
+        written: 0,
+        pending: pending,
+        indexed: pending,
+        filtered: 0,
+        made: 0,
+        waiting: 0,
+        finished: false,
+    }
+}
+
+// The state that comes with a refusal of start.
+fn no_builder() -> Builder
+    ensures { λ r. ⌜ r ≡ noBuilder ⌝ }
+{
+    let options = Options {
+        block_size: 0,
+        interval: 0,
+        filter: Filter::None,
+    };
+    let lengths = Lengths {
+        out: 0,
+        index: 0,
+        filters: 0,
+        restarts: 0,
+        index_restarts: 0,
+        offsets: 0,
+        hashes: 0,
+    };
+    begun(options, lengths)
+}
+
+// Starts a table of such options in seven runs; nothing is written.
+pub fn start(
+    options: Options,
+    out: &mut [u8],
+    index: &mut [u8],
+    filters: &mut [u8],
+    restarts: &mut [u32],
+    index_restarts: &mut [u32],
+    offsets: &mut [u32],
+    hashes: &mut [u32],
+) -> Started
+    ensures { λ r. ⌜ StartedIs options (seven (now (out .entry)) (now (index .entry)) (now (filters .entry)) (now (restarts .entry)) (now («index_restarts» .entry)) (now (offsets .entry)) (now (hashes .entry))) (seven (now (out .exit)) (now (index .exit)) (now (filters .exit)) (now (restarts .exit)) (now («index_restarts» .exit)) (now (offsets .exit)) (now (hashes .exit))) r ⌝ }
+{
+    if !options_fit(options) {
+        return Started {
+            answer: Answer::Refused(1),
+            state: no_builder(),
+        };
+    }
+    let lengths = Lengths {
+        out: out.len(),
+        index: index.len(),
+        filters: filters.len(),
+        restarts: restarts.len(),
+        index_restarts: index_restarts.len(),
+        offsets: offsets.len(),
+        hashes: hashes.len(),
+    };
+    let f = options.filter;
+    if !runs_fit(f, lengths) {
+        return Started {
+            answer: Answer::Refused(2),
+            state: no_builder(),
+        };
+    }
+    Started {
+        answer: Answer::Ok,
+        state: begun(options, lengths),
+    }
+}
+
+// Whether two are the same seven lengths.
+fn same_lengths(a: Lengths, b: Lengths) -> bool
+    ensures { λ r. ⌜ r ≡ sameLengths a b ⌝ }
+{
+    let rest = both(a.offsets == b.offsets, a.hashes == b.hashes);
+    let restarts = both(
+        a.restarts == b.restarts,
+        both(a.index_restarts == b.index_restarts, rest),
+    );
+    both(
+        a.out == b.out,
+        both(a.index == b.index, both(a.filters == b.filters, restarts)),
+    )
+}
+
+// Whether each size is within its run, and both last keys are within their arrays.
+fn sizes_fit(s: Builder, l: Lengths) -> bool
+    ensures { λ r. ⌜ r ≡ sizesFit s l ⌝ }
+{
+    let keys = both(s.pending.len <= 1032, s.indexed.len <= 1032);
+    let filters = both(s.made <= l.offsets, both(s.waiting <= l.hashes, keys));
+    let restarts = both(
+        s.pending.restarts <= l.restarts,
+        both(s.indexed.restarts <= l.index_restarts, filters),
+    );
+    let bytes = both(
+        s.indexed.bytes <= l.index,
+        both(s.filtered <= l.filters, restarts),
+    );
+    both(sum_fits(s.written, s.pending.bytes, l.out), bytes)
+}
+
+// Whether a state is one of runs of such lengths.
+fn is_sane(s: Builder, l: Lengths) -> bool
+    ensures { λ r. ⌜ r ≡ sane s l ⌝ }
+{
+    let options = s.options;
+    let lengths = s.lengths;
+    both(
+        same_lengths(lengths, l),
+        both(options_fit(options), sizes_fit(s, l)),
+    )
+}
+
+// Whether a state's counts are those that a table within the limit can have.
+fn is_small(s: Builder) -> bool
+    ensures { λ r. ⌜ r ≡ small s ⌝ }
+{
+    let made = both(
+        s.filtered <= 16777216,
+        both(s.made <= 16777216, s.waiting <= 16777216),
+    );
+    let index = both(
+        s.indexed.bytes <= 16777216,
+        both(s.indexed.restarts <= 16777216, made),
+    );
+    let bytes = both(
+        s.pending.bytes <= 16777216,
+        both(s.pending.restarts <= 16777216, index),
+    );
+    let since = both(
+        s.indexed.since <= s.options.interval,
+        both(s.written <= 16777216, bytes),
+    );
+    let pending = both(s.pending.since <= s.options.interval, since);
+    both(
+        s.pending.interval == s.options.interval,
+        both(s.indexed.interval == s.options.interval, pending),
+    )
+}
+
+// The filters' bytes, how many there are, and how many hashes wait.
+struct FilterSizes {
+    bytes: usize,
+    made: usize,
+    waiting: usize,
+}
+
+// Filters made until there are n.
+fn made_until(choice: Filter, n: usize, bytes: usize, made: usize, waiting: usize) -> FilterSizes
+    requires { ⌜ bytes + filterBytesOf (choiceOf choice) waiting < 2 ^ 63 ⌝ }
+    ensures { λ r. ⌜ filterCountIn r ≡ countMade (choiceOf choice) n (record { bytes = bytes; made = made; waiting = waiting }) ⌝ }
+{
+    if n <= made {
+        return FilterSizes {
+            bytes: bytes,
+            made: made,
+            waiting: waiting,
+        };
+    }
+    let more = filter::filter::filter_bytes(choice, waiting);
+    FilterSizes {
+        bytes: bytes + more,
+        made: n,
+        waiting: 0,
+    }
+}
+
+// One filter more if hashes still wait.
+fn last_made(choice: Filter, bytes: usize, made: usize, waiting: usize) -> FilterSizes
+    requires { ⌜ (bytes + filterBytesOf (choiceOf choice) waiting < 2 ^ 63) × (made < 2 ^ 63) ⌝ }
+    ensures { λ r. ⌜ filterCountIn r ≡ countLast (choiceOf choice) (record { bytes = bytes; made = made; waiting = waiting }) ⌝ }
+{
+    if waiting == 0 {
+        return FilterSizes {
+            bytes: bytes,
+            made: made,
+            waiting: waiting,
+        };
+    }
+    made_until(choice, made + 1, bytes, made, waiting)
+}
+
+// The state with the open block closed and indexed under a key.
+fn closed(s: Builder, key: &[u8]) -> Builder
+    requires { ⌜ (Small s) × (length (now key) ≤ 1032) ⌝ }
+    ensures { λ r. ⌜ r ≡ closedState s (now (key .entry)) ⌝ }
+{
+    let pending = s.pending;
+    let size = pending.size_estimate();
+    let end = s.written + size + 5;
+    let handle = varint_len(s.written) + varint_len(size);
+    let indexed = s.indexed;
+    let counted = indexed.count(key, handle);
+    let index = counted.block;
+    let options = s.options;
+    let filter = options.filter;
+    let f = made_until(filter, end / 2048, s.filtered, s.made, s.waiting);
+    let lengths = s.lengths;
+    let empty = BlockBuilder::new(options.interval);
+    Builder {
+        options: options,
+        lengths: lengths,
+        written: end,
+        pending: empty,
+        indexed: index,
+        filtered: f.bytes,
+        made: f.made,
+        waiting: f.waiting,
+        finished: s.finished,
+    }
+}
+
+// The state with one entry more in the open block.
+fn entered(s: Builder, key: &[u8], value_len: usize) -> Builder
+    requires { ⌜ Roomy s (length (now key)) «value_len» ⌝ }
+    ensures { λ r. ⌜ r ≡ enteredState s (now (key .entry)) «value_len» ⌝ }
+{
+    let pending = s.pending;
+    let counted = pending.count(key, value_len);
+    let block = counted.block;
+    let options = s.options;
+    let lengths = s.lengths;
+    let indexed = s.indexed;
+    Builder {
+        options: options,
+        lengths: lengths,
+        written: s.written,
+        pending: block,
+        indexed: indexed,
+        filtered: s.filtered,
+        made: s.made,
+        waiting: s.waiting + 1,
+        finished: s.finished,
+    }
+}
+
+// The state with the open block closed and indexed under the first len bytes of an array.
+fn closed_under(s: Builder, last: &[u8], len: usize) -> Builder
+    requires { ⌜ (Small s) × (length (now last) ≡ 1032) ⌝ }
+    ensures { λ r. ⌜ r ≡ closedState s (take len (now (last .entry))) ⌝ }
+{
+    let n = keys::cmp::least(len, 1032);
+    closed(s, &last[..n])
+}
+
+// At the end: the state with a pending block closed, and indexed under its last key.
+fn closed_last(s: Builder) -> Builder
+    requires { ⌜ Small s ⌝ }
+    ensures { λ r. ⌜ r ≡ lastState s ⌝ }
+{
+    let pending = s.pending;
+    if pending.restarts == 0 {
+        return s;
+    }
+    closed_under(s, &pending.last, pending.len)
+}
+
+// How many bytes the metaindex entry's name has.
+fn name_len(f: Filter) -> usize
+    ensures { λ r. ⌜ r ≡ length (metaName (choiceOf f)) ⌝ }
+{
+    match f {
+        Filter::None => 8,
+        Filter::Bits(_) => 34,
+    }
+}
+
+// The metaindex block's bytes.
+fn meta_size(f: Filter, offset: usize, size: usize) -> usize
+    ensures { λ r. ⌜ (r ≡ metaLen (choiceOf f) offset size) × (r < 200) ⌝ }
+{
+    let handle = varint_len(offset) + varint_len(size);
+    let n = name_len(f);
+    1 + varint_len(n) + varint_len(handle) + n + handle + 8
+}
+
+// The bytes of the table finished now.
+fn finished_size(s: Builder) -> usize
+    requires { ⌜ (Small s) × (length (lastOf s) ≤ 1032) ⌝ }
+    ensures { λ r. ⌜ (Whole s → r ≡ finishedSize (optionsOf (s .options)) (countsIn s)) ⌝ }
+{
+    let d = closed_last(s);
+    let options = s.options;
+    let filter = options.filter;
+    let f = last_made(filter, d.filtered, d.made, d.waiting);
+    let block = f.bytes + 4 * f.made + 5;
+    let meta = meta_size(filter, d.written, block);
+    let indexed = d.indexed;
+    let index = indexed.size_estimate();
+    d.written + (block + 5) + (meta + 5) + (index + 5) + 48
+}
+
+// Whether the parts of an addition are within the limits.
+fn addition_fits(word: &[u8], edition: u64, kind: u8, value: &[u8]) -> bool
+    ensures { λ r. ⌜ r ≡ additionFits (record { word = now (word .entry); edition = edition; kind = kind; value = now (value .entry) }) ⌝ }
+{
+    let tag = both(edition < 0x0100_0000_0000_0000, kind <= 1);
+    let value_fits = both(value.len() <= 32768, tag);
+    both(between(1, 1024, word.len()), value_fits)
+}
+
+// The refusals 6, 2 and 3, or 0.
+fn early(s: Builder, l: Lengths, fits: bool) -> u32
+    ensures { λ r. ⌜ r ≡ earlyOf s l fits ⌝ }
+{
+    if s.finished {
+        return 6;
+    }
+    if !is_sane(s, l) {
+        return 2;
+    }
+    if fits { 0 } else { 3 }
+}
+
+// Whether an internal key is below another.
+fn key_below(a: &[u8], b: &[u8]) -> bool
+    ensures { λ r. ⌜ r ≡ below (now (a .entry)) (now (b .entry)) ⌝ }
+{
+    match keys::key_types::cmp_internal_key(a, b) {
+        Ordering::Less => true,
+        Ordering::Equal => false,
+        Ordering::Greater => false,
+    }
+}
+
+// Whether the first len bytes of last are below a key.
+fn last_below(last: &[u8], len: usize, key: &[u8]) -> bool
+    requires { ⌜ len ≤ length (now last) ⌝ }
+    ensures { λ r. ⌜ r ≡ below (take len (now (last .entry))) (now (key .entry)) ⌝ }
+{
+    key_below(&last[..len], key)
+}
+
+// Whether a key is above the last one of the open block.
+fn is_above(s: Builder, key: &[u8]) -> bool
+    requires { ⌜ s .pending .len ≤ 1032 ⌝ }
+    ensures { λ r. ⌜ r ≡ aboveLast s (now (key .entry)) ⌝ }
+{
+    let pending = s.pending;
+    if pending.restarts == 0 {
+        return true;
+    }
+    last_below(&pending.last, pending.len, key)
+}
+
+// Whether the open block is over the block size.
+fn is_cut(s: Builder) -> bool
+    requires { ⌜ Small s ⌝ }
+    ensures { λ r. ⌜ r ≡ cutOf s ⌝ }
+{
+    let pending = s.pending;
+    s.options.block_size < pending.size_estimate()
+}
+
+// The separator of the first len bytes of last and a key goes to the front of sep; how many bytes it has.
+fn put_separator(sep: &mut [u8], last: &[u8], len: usize, key: &[u8]) -> usize
+    requires { ⌜ (length (now sep) ≡ 1032) × ((len ≤ length (now last)) × (len ≤ 1032)) ⌝ }
+    ensures { λ r. ⌜ (r ≤ 1032) × ((length (now (sep .exit)) ≡ 1032) × (take r (now (sep .exit)) ≡ separator (take len (now (last .entry))) (now (key .entry)))) ⌝ }
+{
+    match keys::cmp::find_internal_sep(sep, 0, &last[..len], key) {
+        Written::NoRoom => 0,
+        Written::At(n) => n,
+    }
+}
+
+// The state after a cut before a key, if there is one.
+fn cut_before(s: Builder, key: &[u8]) -> Builder
+    requires { ⌜ (Small s) × (s .pending .len ≤ 1032) ⌝ }
+    ensures { λ r. ⌜ r ≡ midOf s (now (key .entry)) ⌝ }
+{
+    if !is_cut(s) {
+        return s;
+    }
+    let pending = s.pending;
+    let mut sep = [0u8; 1032];
+    let n = put_separator(&mut sep, &pending.last, pending.len, key);
+    closed(s, &sep[..n])
+}
+
+// Whether a state is one that a table within the room can have.
+fn has_room(s: Builder, l: Lengths) -> bool
+    ensures { λ r. ⌜ (Whole s → r ≡ fitsOf s l) ⌝ }
+{
+    if !is_sane(s, l) {
+        return false;
+    }
+    if !is_small(s) {
+        return false;
+    }
+    finished_size(s) <= room(l.out)
+}
+
+// What is decided of an addition: 0 or the refusal's number, the state after a cut, and the state with the entry.
+struct Plan {
+    answer: u32,
+    mid: Builder,
+    next: Builder,
+}
+
+// Everything is decided here, and nothing written.
+fn decide(s: Builder, l: Lengths, key: &[u8], value_len: usize) -> Plan
+    requires { ⌜ Ready s l (length (now key)) «value_len» ⌝ }
+    ensures { λ r. ⌜ DecidedIs s l (now (key .entry)) «value_len» r ⌝ }
+{
+    if !is_small(s) {
+        return Plan {
+            answer: 5,
+            mid: s,
+            next: s,
+        };
+    }
+    if !is_above(s, key) {
+        return Plan {
+            answer: 4,
+            mid: s,
+            next: s,
+        };
+    }
+    let mid = cut_before(s, key);
+    let next = entered(mid, key, value_len);
+    if !has_room(next, l) {
+        return Plan {
+            answer: 5,
+            mid: s,
+            next: s,
+        };
+    }
+    Plan {
+        answer: 0,
+        mid: mid,
+        next: next,
+    }
+}
