@@ -2,3 +2,9 @@ pub mod NumberLaws
 pub mod StartLaws
 pub mod SizeLaws
 pub mod DecideLaws
+pub mod WriteLaws
+pub mod OverlayLaws
+pub mod CloseLaws
+pub mod EnterLaws
+pub mod TraceLaws
+pub mod AddLaws

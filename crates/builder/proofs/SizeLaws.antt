@@ -42,7 +42,7 @@ use Rattle.builder.specs.Steps.{small, Small, filterCountIn, filtersIn, 
 
 -- ---- one entry more
 
-since-most : (i n : ℕ) → 1 ≤ i → n ≤ i → since i n ≤ i
+pub since-most : (i n : ℕ) → 1 ≤ i → n ≤ i → since i n ≤ i
 unfolding since
 since-most i n h k = test (eqb n i) (λ t. rw (t, since) h) (λ t. let ne = eqb-false n i t in rw (t, since) (split n i (λ l. l) (λ g. absurd (ne (omega arith)))))
 
@@ -147,7 +147,7 @@ module _ (s : Builder) (h : Small s) where
   filter-room = omega (arith, h .filtered, h .waiting, filter-most (choiceOf (s .options .filter)) (s .waiting) (h .fits))
 
   module _ (key : List ℕ) (k : length key ≤ 1032) where
-    index-countable : (v : ℕ) → v ≤ 20 → countable (s .indexed) key v ≡ true
+    pub index-countable : (v : ℕ) → v ≤ 20 → countable (s .indexed) key v ≡ true
     index-countable v l =
         countable-small (s .indexed) key v k (omega arith) (omega (arith, h .indexBytes)) (omega (arith, h .indexRestarts))
         (omega (arith, h .indexSince, h .indexInterval)) (omega (arith, h .least, h .indexInterval)) (omega (arith, h .most, h .indexInterval))

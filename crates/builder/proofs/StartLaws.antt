@@ -77,6 +77,7 @@ module _ (o : Given.Options) (r : Runs) where
         interval = refl;
         indexInterval = refl;
         whole = (length-replicate {A = ℕ} 1032 0, length-replicate {A = ℕ} 1032 0);
+        short = (omega arith, omega arith);
         lengths = refl;
         going = refl;
         started = e;

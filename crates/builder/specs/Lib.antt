@@ -1,3 +1,4 @@
 pub mod State
-pub mod Answers
 pub mod Steps
+pub mod Writes
+pub mod Answers

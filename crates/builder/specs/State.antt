@@ -110,6 +110,7 @@ pub record Stands (o : Options) (b : Building) (s : Builder) (r : Runs) : Type 0
   pub interval : s .pending .interval ≡ o .interval
   pub indexInterval : s .indexed .interval ≡ indexInterval o
   pub whole : (length (s .pending .last) ≡ 1032) × (length (s .indexed .last) ≡ 1032)
+  pub short : (s .pending .len ≤ 1032) × (s .indexed .len ≤ 1032)
   pub lengths : s .lengths ≡ lengthsOf r
   pub going : s .finished ≡ false
   pub started : startOf o r ≡ pass tt

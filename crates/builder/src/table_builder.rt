@@ -2,24 +2,33 @@
 // options, the runs' lengths and counts. Everything is decided from these before anything is written.
 ghost use mathlib.Core.Path.{_≡_};
 ghost use mathlib.Core.Bool.{_&&_};
+ghost use mathlib.Core.List.{[], _∷_};
 ghost use Prim.Native.Nat.{_+_, _^_, _≤_, _<_};
 ghost use lib.Dec.{eqb, leb};
 ghost use lib.ListN.{length, take};
+ghost use Rattle.codec.specs.Put.{put};
+ghost use Rattle.codec.specs.Varint.{handleBytes};
 ghost use Rattle.block.specs.Formed.{within};
+ghost use Rattle.block.specs.Count.{countSize};
+ghost use Rattle.block.specs.Builder as Blocks;
+ghost use Rattle.block.specs.Builder.{countIn};
 ghost use Rattle.filter.specs.Choice.{choiceOf};
+ghost use Rattle.filter.specs.Make.{groupsUpTo, MadeFilters};
 ghost use Rattle.filter.specs.FilterCount.{filterBytesOf, countMade, countLast};
-ghost use Rattle.keys.specs.Order.{below, separator};
+ghost use Rattle.keys.specs.Order.{below, separator, internal};
 ghost use Rattle.table.specs.Options.{optionsFit, filteringFits, emptySize, additionFits};
 ghost use Rattle.table.specs.Build.{metaName};
 ghost use Rattle.table.specs.Runs.{roomOf};
 ghost use Rattle.table.specs.Counts.{finishedSize};
 ghost use Rattle.builder.specs.State.{optionsOf, countsIn, seven, runsFit, sameLengths, sizesFit, sane, begun, noBuilder};
-ghost use Rattle.builder.specs.Answers.{StartedIs};
+ghost use Rattle.builder.specs.Answers.{StartedIs, AddedIs};
 ghost use Rattle.builder.specs.Steps.{small, Small, filterCountIn, closedState, lastOf, Roomy, enteredState, lastState, metaLen, Whole, cutOf, midOf, aboveLast, fitsOf, earlyOf, Ready, DecidedIs};
+ghost use Rattle.builder.specs.Writes.{sealedOut, ClosedRuns, CutRuns, EnteredRuns, PutIs};
 use block::block_builder::BlockBuilder;
 use codec::put::Written;
 use codec::varint::varint_len;
 use filter::filter::Filter;
+use filter::filter_block::Made;
 use keys::cmp::Ordering;
 
 // Restart interval, block size and filter choice.
@@ -62,6 +71,12 @@ pub enum Answer {
 
 // Start's answer, and the state to go on with.
 pub struct Started {
+    pub answer: Answer,
+    pub state: Builder,
+}
+
+// Add's answer, and the state to go on with.
+pub struct Added {
     pub answer: Answer,
     pub state: Builder,
 }
@@ -579,5 +594,256 @@ fn decide(s: Builder, l: Lengths, key: &[u8], value_len: usize) -> Plan
         answer: 0,
         mid: mid,
         next: next,
+    }
+}
+
+// Writes the restarts and the trailer of the open block, whose entries stand at a place of out.
+fn seal_block(out: &mut [u8], at: usize, pending: BlockBuilder, restarts: &[u32], size: usize)
+    requires { ⌜ size ≡ countSize (countIn pending) ⌝ }
+    ensures { λ _. ⌜ now (out .exit) ≡ sealedOut (now (out .entry)) at pending (now (restarts .entry)) ⌝ }
+{
+    pending.finish(out, at, restarts);
+    codec::trailer::put_trailer(out, at, size);
+}
+
+// Adds an entry to the index: a key, and the handle of a block.
+fn index_block(
+    indexed: BlockBuilder,
+    index: &mut [u8],
+    restarts: &mut [u32],
+    key: &[u8],
+    offset: usize,
+    size: usize,
+) -> block::block_builder::Added
+    ensures { λ r. ⌜ Blocks.AddedIs indexed 0 (now (index .entry)) (now (index .exit)) (now (restarts .entry)) (now (restarts .exit)) (now (key .entry)) (handleBytes (record { offset = offset; size = size })) r ⌝ }
+{
+    let mut handle = [0u8; 20];
+    match codec::blockhandle::encode_to(&mut handle, 0, offset, size) {
+        Written::NoRoom => indexed.add(index, 0, restarts, key, b""),
+        Written::At(n) => indexed.add(index, 0, restarts, key, &handle[..n]),
+    }
+}
+
+// Makes filters of the first waiting hashes until there are n.
+fn filter_blocks(
+    choice: Filter,
+    hashes: &[u32],
+    waiting: usize,
+    n: usize,
+    filters: &mut [u8],
+    bytes: usize,
+    offsets: &mut [u32],
+    made: usize,
+) -> Made
+    ensures { λ r. ⌜ MadeFilters (choiceOf choice) (groupsUpTo made n (take waiting (now (hashes .entry)))) bytes made r (now (filters .entry)) (now (filters .exit)) (now (offsets .entry)) (now (offsets .exit)) ⌝ }
+{
+    let k = keys::cmp::least(waiting, hashes.len());
+    filter::filter_block::make_filters(choice, &hashes[..k], n, filters, bytes, offsets, made)
+}
+
+// Writes the open block, indexes it under a key, and makes filters up to where it ends.
+fn close(
+    s: Builder,
+    key: &[u8],
+    out: &mut [u8],
+    index: &mut [u8],
+    filters: &mut [u8],
+    restarts: &[u32],
+    index_restarts: &mut [u32],
+    offsets: &mut [u32],
+    hashes: &[u32],
+)
+    requires { ⌜ Small s ⌝ }
+    ensures { λ _. ⌜ ClosedRuns s (now (key .entry)) (seven (now (out .entry)) (now (index .entry)) (now (filters .entry)) (now (restarts .entry)) (now («index_restarts» .entry)) (now (offsets .entry)) (now (hashes .entry))) (seven (now (out .exit)) (now (index .exit)) (now (filters .exit)) (now (restarts .entry)) (now («index_restarts» .exit)) (now (offsets .exit)) (now (hashes .entry))) ⌝ }
+{
+    let pending = s.pending;
+    let size = pending.size_estimate();
+    let at = s.written;
+    let end = at + size + 5;
+    seal_block(out, at, pending, restarts, size);
+    let indexed = s.indexed;
+    index_block(indexed, index, index_restarts, key, at, size);
+    let options = s.options;
+    let filter = options.filter;
+    filter_blocks(
+        filter,
+        hashes,
+        s.waiting,
+        end / 2048,
+        filters,
+        s.filtered,
+        offsets,
+        s.made,
+    );
+}
+
+// The same before a key, if the open block is over the block size.
+fn close_before(
+    s: Builder,
+    key: &[u8],
+    out: &mut [u8],
+    index: &mut [u8],
+    filters: &mut [u8],
+    restarts: &[u32],
+    index_restarts: &mut [u32],
+    offsets: &mut [u32],
+    hashes: &[u32],
+)
+    requires { ⌜ (Small s) × (s .pending .len ≤ 1032) ⌝ }
+    ensures { λ _. ⌜ CutRuns s (now (key .entry)) (seven (now (out .entry)) (now (index .entry)) (now (filters .entry)) (now (restarts .entry)) (now («index_restarts» .entry)) (now (offsets .entry)) (now (hashes .entry))) (seven (now (out .exit)) (now (index .exit)) (now (filters .exit)) (now (restarts .entry)) (now («index_restarts» .exit)) (now (offsets .exit)) (now (hashes .entry))) ⌝ }
+{
+    if !is_cut(s) {
+        return;
+    }
+    let pending = s.pending;
+    let mut sep = [0u8; 1032];
+    let n = put_separator(&mut sep, &pending.last, pending.len, key);
+    close(
+        s,
+        &sep[..n],
+        out,
+        index,
+        filters,
+        restarts,
+        index_restarts,
+        offsets,
+        hashes,
+    );
+}
+
+// Puts a hash behind those that wait.
+fn push_hash(hashes: &mut [u32], n: usize, x: u32)
+    ensures { λ _. ⌜ now (hashes .exit) ≡ put (now (hashes .entry)) n (x ∷ []) ⌝ }
+{
+    if n < hashes.len() {
+        hashes[n] = x;
+    }
+}
+
+// Writes an entry into the open block, and its word's hash behind those that wait.
+fn write_entry(
+    s: Builder,
+    key: &[u8],
+    word: &[u8],
+    value: &[u8],
+    out: &mut [u8],
+    restarts: &mut [u32],
+    hashes: &mut [u32],
+)
+    ensures { λ _. ⌜ EnteredRuns s (now (key .entry)) (now (word .entry)) (now (value .entry)) (now (out .entry)) (now (out .exit)) (now (restarts .entry)) (now (restarts .exit)) (now (hashes .entry)) (now (hashes .exit)) ⌝ }
+{
+    let pending = s.pending;
+    pending.add(out, s.written, restarts, key, value);
+    push_hash(hashes, s.waiting, filter::filter::bloom_hash(word));
+}
+
+// The internal key of an addition goes to the front of key; how many bytes it has.
+fn put_key(key: &mut [u8], word: &[u8], edition: u64, kind: u8) -> usize
+    requires { ⌜ (length (now key) ≡ 1032) × (length (now word) ≤ 1024) ⌝ }
+    ensures { λ r. ⌜ (r ≤ 1032) × ((length (now (key .exit)) ≡ 1032) × (take r (now (key .exit)) ≡ internal (now (word .entry)) edition kind)) ⌝ }
+{
+    match keys::key_types::build_internal_key(key, 0, word, edition, kind) {
+        Written::NoRoom => 0,
+        Written::At(n) => n,
+    }
+}
+
+// Decides of an addition within the limits, and then writes it.
+fn put_addition(
+    s: Builder,
+    l: Lengths,
+    key: &[u8],
+    word: &[u8],
+    value: &[u8],
+    out: &mut [u8],
+    index: &mut [u8],
+    filters: &mut [u8],
+    restarts: &mut [u32],
+    index_restarts: &mut [u32],
+    offsets: &mut [u32],
+    hashes: &mut [u32],
+) -> Added
+    requires { ⌜ Ready s l (length (now key)) (length (now value)) ⌝ }
+    ensures { λ r. ⌜ PutIs s l (now (key .entry)) (now (word .entry)) (now (value .entry)) (seven (now (out .entry)) (now (index .entry)) (now (filters .entry)) (now (restarts .entry)) (now («index_restarts» .entry)) (now (offsets .entry)) (now (hashes .entry))) (seven (now (out .exit)) (now (index .exit)) (now (filters .exit)) (now (restarts .exit)) (now («index_restarts» .exit)) (now (offsets .exit)) (now (hashes .exit))) r ⌝ }
+{
+    let p = decide(s, l, key, value.len());
+    let number = p.answer;
+    if number != 0 {
+        return Added {
+            answer: Answer::Refused(number),
+            state: s,
+        };
+    }
+    close_before(
+        s,
+        key,
+        out,
+        index,
+        filters,
+        restarts,
+        index_restarts,
+        offsets,
+        hashes,
+    );
+    let mid = p.mid;
+    write_entry(mid, key, word, value, out, restarts, hashes);
+    let next = p.next;
+    Added {
+        answer: Answer::Ok,
+        state: next,
+    }
+}
+
+impl Builder {
+    // Adds an entry: a user key, a sequence and a kind, and a value.
+    pub fn add(
+        self,
+        out: &mut [u8],
+        index: &mut [u8],
+        filters: &mut [u8],
+        restarts: &mut [u32],
+        index_restarts: &mut [u32],
+        offsets: &mut [u32],
+        hashes: &mut [u32],
+        word: &[u8],
+        edition: u64,
+        kind: u8,
+        value: &[u8],
+    ) -> Added
+        ensures { λ r. ⌜ AddedIs self (seven (now (out .entry)) (now (index .entry)) (now (filters .entry)) (now (restarts .entry)) (now («index_restarts» .entry)) (now (offsets .entry)) (now (hashes .entry))) (seven (now (out .exit)) (now (index .exit)) (now (filters .exit)) (now (restarts .exit)) (now («index_restarts» .exit)) (now (offsets .exit)) (now (hashes .exit))) (record { word = now (word .entry); edition = edition; kind = kind; value = now (value .entry) }) r ⌝ }
+    {
+        let lengths = Lengths {
+            out: out.len(),
+            index: index.len(),
+            filters: filters.len(),
+            restarts: restarts.len(),
+            index_restarts: index_restarts.len(),
+            offsets: offsets.len(),
+            hashes: hashes.len(),
+        };
+        let fits = addition_fits(word, edition, kind, value);
+        let number = early(self, lengths, fits);
+        if number != 0 {
+            return Added {
+                answer: Answer::Refused(number),
+                state: self,
+            };
+        }
+        let mut key = [0u8; 1032];
+        let n = put_key(&mut key, word, edition, kind);
+        put_addition(
+            self,
+            lengths,
+            &key[..n],
+            word,
+            value,
+            out,
+            index,
+            filters,
+            restarts,
+            index_restarts,
+            offsets,
+            hashes,
+        )
     }
 }

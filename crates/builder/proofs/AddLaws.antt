@@ -1,0 +1,250 @@
+-- Add: what its steps come to.
+use Prim.Native.Nat.{ℕ, zero, suc, _+_, _≤_}
+use mathlib.Core.Path.{_≡_, refl, sym, ap, _∙_}
+use mathlib.Core.Logic.{_⊎_, inl, inr}
+use mathlib.Core.List.{List, [], _∷_, _++_}
+use mathlib.Core.Bool.{Bool, true, false, cond}
+use native.Mathlib.Nat.{zero-add}
+use native.Mathlib.Omega.{arith}
+use lib.Dec.{leb}
+use lib.ListN.{length, take}
+use Rattle.codec.specs.Put.{Wrote}
+use Rattle.codec.specs.declared.put.Written.{Written}
+use Rattle.codec.specs.declared.put.Written.the-variants.{At, NoRoom}
+use Rattle.codec.proofs.Prelude.{test, both, true-is}
+use Rattle.codec.proofs.PutLaws.{put-length, put-front, wrote-next, wrote-never}
+use Rattle.keys.specs.Order.{internal}
+use Rattle.keys.proofs.KeyLaws.{internal-length}
+use Rattle.table.specs.Checked.{Checked, pass, refuse, _>>=_, ask}
+use Rattle.table.specs.Options.{Options, Addition, additionFits}
+use Rattle.table.specs.Build.{Building, keyOf, begin, closeBefore, add, finish, above, accept, acceptAll}
+use Rattle.table.proofs.CheckedLaws.{refuse-pass}
+use Rattle.table.specs.Runs.{Runs, between, overlaid, FitsRoom, roomOf}
+use Rattle.table.proofs.AcceptLaws.{within-parts}
+use Rattle.block.specs.Formed.{within}
+use Rattle.table.proofs.SufficeLaws.{runs-suffice}
+use Rattle.builder.specs.declared.table_builder.Answer.{Answer}
+use Rattle.builder.specs.declared.table_builder.Answer.the-variants as AnswerCase
+use Rattle.builder.specs.declared.table_builder.Lengths.{Lengths}
+use Rattle.builder.specs.declared.table_builder.Builder.{Builder}
+use Rattle.builder.specs.declared.table_builder.Plan.{Plan}
+use Rattle.builder.specs.declared.table_builder.Added.{Added}
+use Rattle.builder.specs.State.{lengthsOf, sane, Stands}
+use Rattle.builder.specs.Steps.{Whole, Ready, earlyOf, midOf, nextOf, decideOf, enteredState, DecidedIs, cutOf, sepOf}
+use Rattle.builder.specs.Writes.{CutRuns, EnteredRuns, PutRuns, numbered, PutIs}
+use Rattle.builder.specs.Answers.{answerOf, Later, Traced, AddedIs}
+use Rattle.builder.proofs.CloseLaws.{Counted, closed-all}
+use Rattle.builder.proofs.EnterLaws.{enter-fits, entered-all}
+use Rattle.builder.proofs.TraceLaws.{Began, took, accept-more, refusalOf, lengths-of, start-lengths, overlaid-itself, stands-counted, cut-close, no-cut-close, sep-short, mid-counted, roomy, addition-short, trace-began, trace-fits, trace-sane, trace-is-small, trace-next, trace-whole, trace-decides, next-short, next-lengths, mid-same}
+
+-- ---- the key
+
+module _ (d word : List ℕ) (edition kind : ℕ) (r : Written) (e : List ℕ) (l : length d ≡ 1032) (k : length word ≤ 1024) (w : Wrote d 0 (internal word edition kind) r e) where
+  abbrev i : List ℕ
+  i = internal word edition kind
+
+  key-room : 0 + length i ≤ length d
+  key-room = omega (arith, internal-length word edition kind)
+
+  pub key-never : r ≡ NoRoom → ⊥
+  key-never = wrote-never d 0 i r e key-room w
+
+  pub key-put : (n : ℕ) → r ≡ At n → (n ≤ 1032) × ((length e ≡ 1032) × (take n e ≡ i))
+  key-put n p =
+      let m : n ≡ 0 + length i = wrote-next d 0 i n r e key-room w p in
+      (omega (arith, key-room), (ap length (w .left) ∙ put-length d 0 i ∙ l, rw (m, w .left) (put-front d 0 i key-room)))
+
+-- ---- decided, and then written
+
+module _ (s : Builder) (l : Lengths) (key word value : List ℕ) (r : Runs) where
+  numbered-not : (n : ℕ) → (n ≡ 0 → ⊥) → AnswerCase.Refused n ≡ numbered n
+  unfolding numbered
+  numbered-not zero h = absurd (h refl)
+  numbered-not (suc n) h = refl
+
+  pub put-refused : {p : Plan} → DecidedIs s l key (length value) p → (p .answer ≡ 0 → ⊥)
+      → PutIs s l key word value r r (record { answer = AnswerCase.Refused (p .answer); state = s })
+  put-refused {p} h n =
+      record {
+        number = p .answer;
+        kind = h .kind;
+        answer = numbered-not (p .answer) n;
+        decided = h .answer;
+        kept = λ z. (refl, refl);
+        state = λ z. absurd (n z);
+        wrote = λ z. absurd (n z);
+      }
+
+  pub put-done : {p : Plan} → DecidedIs s l key (length value) p → p .answer ≡ 0 → (r₁ r₂ : Runs) → CutRuns s key r r₁
+      → EnteredRuns (p .mid) key word value (r₁ .out) (r₂ .out) (r₁ .restarts) (r₂ .restarts) (r₁ .hashes) (r₂ .hashes)
+      → r₂ .index ≡ r₁ .index → r₂ .filters ≡ r₁ .filters → r₂ .indexRestarts ≡ r₁ .indexRestarts → r₂ .offsets ≡ r₁ .offsets
+      → PutIs s l key word value r r₂ (record { answer = AnswerCase.Ok; state = p .next })
+  put-done {p} h z r₁ r₂ c e x₁ x₂ x₃ x₄ =
+      record {
+        number = p .answer;
+        kind = h .kind;
+        answer = (unfold numbered in rw z);
+        decided = h .answer;
+        kept = λ n. absurd (n z);
+        state = h .next;
+        wrote = λ q. record { mid = r₁; cut = c; entered = rw (h .mid z) at e; index = x₁; filters = x₂; indexRestarts = x₃; offsets = x₄ };
+      }
+
+-- ---- the trace
+
+module _ (o : Options) (more : List Addition) (b : Building) (s : Builder) (r : Runs) (e : acceptAll o (roomOf (length (r .out))) begin more ≡ pass b) (t : Stands o b s r)
+    (a : Addition) (f : additionFits a ≡ true) (c : Building) (q : accept o (roomOf (length (r .out))) b a ≡ pass c) (r₂ : Runs) (g : PutRuns s (keyOf a) (a .word) (a .value) r r₂) where
+  abbrev room : ℕ
+  room = roomOf (length (r .out))
+
+  abbrev h : Counted o b s
+  h = stands-counted t
+
+  added-is : add o b a ≡ c
+  added-is = took o room b a c q
+
+  after-fits : FitsRoom room (between o (add o b a))
+  after-fits =
+      let z = trace-began o more b s r e t in
+      rw added-is (runs-suffice o room (more ++ (a ∷ [])) c (true-is (z .fits)) (z .least) (accept-more o room begin more a b c e q) .0)
+
+  abbrev m : Building
+  m = closeBefore o (keyOf a) b
+
+  counted : Counted o m (midOf s (keyOf a))
+  counted = mid-counted h (trace-is-small o more b s r e t) (t .short .0) a
+
+  mid-fits : FitsRoom room (between o m)
+  mid-fits = enter-fits counted a (roomy h (trace-is-small o more b s r e t) (t .short .0) a f) room (unfold add in after-fits)
+
+  mid-runs : g .mid ≡ overlaid (between o m) r
+  mid-runs =
+      let small = trace-is-small o more b s r e t in
+      let z = trace-began o more b s r e t in
+      test (cutOf s)
+      (λ u.
+      let w = cut-close h small (t .short .0) a u in
+      rw w (closed-all h small (sepOf s (keyOf a)) (sep-short h small (t .short .0) a) room r (g .mid) (z .rooms) (trace-fits o more b s r e t .0) (rw w at mid-fits) (t .runs) (g .cut .cut u)))
+      (λ u. rw (no-cut-close h small (t .short .0) a u) (g .cut .kept u ∙ t .runs))
+
+  add-runs : r₂ ≡ overlaid (between o (add o b a)) r
+  unfolding add
+  add-runs =
+      entered-all counted a (roomy h (trace-is-small o more b s r e t) (t .short .0) a f) room r (g .mid) (trace-began o more b s r e t .rooms) after-fits mid-runs r₂ (g .entered) (g .index) (g .filters) (g .indexRestarts) (g .offsets)
+
+  pub after-runs : r₂ ≡ overlaid (between o c) r
+  after-runs = rw added-is at add-runs
+
+  pub after-stands : Stands o c (nextOf s (keyOf a) (length (a .value))) r₂
+  after-stands =
+      let n = trace-next o more b s r e t a f in
+      let l = lengths-of (between o (add o b a)) r r₂ add-runs room (trace-began o more b s r e t .rooms) after-fits in
+      rw (← added-is) (record {
+        options = n .options;
+        counts = n .counts;
+        interval = n .interval;
+        indexInterval = n .indexInterval;
+        whole = (n .whole .pending, n .whole .indexed);
+        short = next-short o more b s r e t a f;
+        lengths = next-lengths o more b s r e t a f ∙ sym l;
+        going = (unfold nextOf enteredState in mid-same o more b s r e t a f .1 ∙ t .going);
+        started = start-lengths o r r₂ l ∙ t .started;
+        runs = overlaid-itself (between o (add o b a)) r r₂ add-runs;
+      })
+
+-- ---- all of it
+
+early-zero : (s : Builder) (l : Lengths) (t : Bool) → earlyOf s l t ≡ 0 → (sane s l ≡ true) × (t ≡ true)
+unfolding earlyOf
+early-zero s l t e = go (s .finished) (sane s l) t e
+  where
+    go : (x y z : Bool) → _≡_ {A = ℕ} (cond x 6 (cond y (cond z 0 3) 2)) 0 → (y ≡ true) × (z ≡ true)
+    go true y z e = absurd (omega arith)
+    go false true true e = (refl, refl)
+    go false true false e = absurd (omega arith)
+    go false false z e = absurd (omega arith)
+
+early-traced : (s : Builder) (l : Lengths) (t : Bool) → s .finished ≡ false → sane s l ≡ true → earlyOf s l t ≡ cond t 0 3
+unfolding earlyOf
+early-traced s l t e f = rw (f, e)
+
+accept-short : (o : Options) (room : ℕ) (b : Building) (a : Addition) → additionFits a ≡ false → accept o room b a ≡ refuse 3
+unfolding accept ask _>>=_
+accept-short o room b a f = rw f
+
+accept-number : (o : Options) (room : ℕ) (b : Building) (a : Addition) → additionFits a ≡ true → numbered (refusalOf (accept o room b a)) ≡ answerOf (accept o room b a)
+unfolding accept ask _>>=_ refusalOf numbered answerOf
+accept-number o room b a f =
+    test (above a (b .openBlock))
+    (λ u. test (leb (length (finish o (add o b a))) room) (λ v. rw (f, u, v)) (λ v. rw (f, u, v)))
+    (λ u. rw (f, u))
+
+module _ (s : Builder) (r : Runs) (a : Addition) where
+  pub add-refused : {t : Bool} {n : ℕ} → t ≡ additionFits a → n ≡ earlyOf s (lengthsOf r) t → (n ≡ 0 → ⊥) → AddedIs s r r a (record { answer = AnswerCase.Refused n; state = s })
+  add-refused {t} {n} p q z =
+      let w : n ≡ earlyOf s (lengthsOf r) (additionFits a) = q ∙ ap (earlyOf s (lengthsOf r)) p in
+      record {
+        early = λ x. ap AnswerCase.Refused w;
+        later = λ x. absurd (z (w ∙ x));
+        refused = λ m x. (refl, refl);
+        traced = λ o more b e st.
+            test (additionFits a)
+            (λ f. absurd (z (w ∙ early-traced s (lengthsOf r) (additionFits a) (st .going) (trace-sane o more b s r e st) ∙ rw f)))
+            (λ f.
+            let x = accept-short o (roomOf (length (r .out))) b a f in
+            let y : n ≡ 3 = w ∙ early-traced s (lengthsOf r) (additionFits a) (st .going) (trace-sane o more b s r e st) ∙ rw f in
+            record {
+              answer = ap AnswerCase.Refused y ∙ sym (ap answerOf x ∙ (unfold answerOf in refl));
+              stands = λ c k. absurd (refuse-pass (sym x ∙ k));
+              runs = λ c k. absurd (refuse-pass (sym x ∙ k));
+            });
+      }
+
+  module _ {t : Bool} {n : ℕ} (p : t ≡ additionFits a) (q : n ≡ earlyOf s (lengthsOf r) t) (z : n ≡ 0) where
+    pub add-ready : (sane s (lengthsOf r) ≡ true) × (additionFits a ≡ true)
+    add-ready = let w = early-zero s (lengthsOf r) t (sym q ∙ z) in (w .0, sym p ∙ w .1)
+
+    module _ {r′ : Runs} {x : Added} (g : PutIs s (lengthsOf r) (keyOf a) (a .word) (a .value) r r′ x) where
+      no-refusal : g .number ≡ 0 → x .answer ≡ AnswerCase.Ok
+      unfolding numbered
+      no-refusal e = g .answer ∙ rw e
+
+      later-is : Later (x .answer)
+      later-is = go (g .kind)
+        where
+          go : (g .number ≡ 0) ⊎ ((g .number ≡ 4) ⊎ (g .number ≡ 5)) → Later (x .answer)
+          go (inl e) = rw (no-refusal e) tt
+          go (inr (inl e)) = rw (g .answer ∙ ap numbered e) (unfold numbered in inl refl)
+          go (inr (inr e)) = rw (g .answer ∙ ap numbered e) (unfold numbered in inr refl)
+
+      module _ (o : Options) (more : List Addition) (b : Building) (e : acceptAll o (roomOf (length (r .out))) begin more ≡ pass b) (st : Stands o b s r) where
+        number-is : g .number ≡ refusalOf (accept o (roomOf (length (r .out))) b a)
+        number-is = g .decided (trace-whole o more b s r e st a (add-ready .1)) ∙ trace-decides o more b s r e st a (add-ready .1)
+
+        number-zero : (c : Building) → accept o (roomOf (length (r .out))) b a ≡ pass c → g .number ≡ 0
+        unfolding refusalOf
+        number-zero c k = number-is ∙ rw k
+
+        traced-is : Traced o b r r′ a x
+        traced-is =
+            record {
+              answer = g .answer ∙ ap numbered number-is ∙ accept-number o (roomOf (length (r .out))) b a (add-ready .1);
+              stands = λ c k. rw (g .state (number-zero c k)) (after-stands o more b s r e st a (add-ready .1) c k r′ (g .wrote (number-zero c k)));
+              runs = λ c k. after-runs o more b s r e st a (add-ready .1) c k r′ (g .wrote (number-zero c k));
+            }
+
+      pub add-put : AddedIs s r r′ a x
+      add-put =
+          record {
+            early = λ y. absurd (y (ap (earlyOf s (lengthsOf r)) (sym p) ∙ sym q ∙ z));
+            later = λ y. later-is;
+            refused = λ m y. g .kept (λ k. let v = sym (no-refusal k) ∙ y in let u : _≡_ {A = ℕ} 0 1 = cc in omega arith);
+            traced = traced-is;
+          }
+
+pub word-short : (a : Addition) → additionFits a ≡ true → length (a .word) ≤ 1024
+unfolding additionFits
+word-short a f = within-parts 1 1024 (length (a .word)) (both (within 1 1024 (length (a .word))) _ f .0) .1
+
+pub add-is-ready : (s : Builder) (r : Runs) (a : Addition) → (sane s (lengthsOf r) ≡ true) × (additionFits a ≡ true) → {n : ℕ} → n ≤ 1032 → Ready s (lengthsOf r) n (length (a .value))
+add-is-ready s r a f h = record { sound = f .0; key = h; value = addition-short a (f .1) .1 }

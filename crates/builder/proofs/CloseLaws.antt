@@ -1,0 +1,381 @@
+-- What a state that counts a table tells of the runs, and what closing a block leaves in them.
+use Prim.Native.Nat.{ℕ, _+_, _-_, _*_, _/_, _^_, _≤_, _<_}
+use mathlib.Core.Path.{_≡_, refl, sym, ap, ap₂, _∙_}
+use mathlib.Core.List.{List, [], _∷_, _++_, map, append-nil}
+use mathlib.Core.Bool.{Bool, true, false, cond}
+use native.Mathlib.Nat.{zero-add, add-zero}
+use native.Mathlib.Omega.{arith}
+use lib.Dec.{leb, ltb}
+use lib.ListN.{length, take, drop, length-append, length-replicate}
+use lib.Seq.{take-at}
+use borrow.Author.Tests.{le-leb, lt-ltb}
+use Rattle.codec.specs.Bytes.{part}
+use Rattle.codec.specs.Checksum.{trailer}
+use Rattle.codec.specs.Put.{room, put, putAnswer, Wrote}
+use Rattle.codec.specs.Varint.{handleBytes}
+use Rattle.codec.proofs.PutLaws.{put-put, put-behind, put-length}
+use Rattle.block.specs.declared.block_builder.BlockBuilder.{BlockBuilder}
+use Rattle.block.specs.declared.block_builder.Added.{Added}
+use Rattle.block.specs.Block.{Pair, packed, restartsOf, tailBytes, blockBytes}
+use Rattle.block.specs.Count.{BlockCount, countOf, countEntry, countSize}
+use Rattle.block.specs.Builder as Blocks
+use Rattle.block.specs.Builder.{countIn, newBuilder, builderAfter, builderWith, addable, countable, AddedIs, Counting}
+use Rattle.block.proofs.BuilderLaws.{stands-more, stands-finish, stands-size, added-kept}
+use Rattle.block.proofs.BuilderCode.{addable-room, room-mark}
+use Rattle.block.proofs.CountLaws.{count-size}
+use Rattle.filter.specs.FilterBlock.{Filtering, Filters, noFilters, wait, filtersUpTo, madeBytes, starts}
+use Rattle.filter.specs.declared.filter_block.Made.{Made}
+use Rattle.filter.specs.FilterCount.{FilterCount, filterCountOf}
+use Rattle.filter.specs.Choice.{choiceOf}
+use Rattle.filter.specs.Make.{groupsUpTo, roomFor, MadeFilters}
+use Rattle.filter.proofs.FilterBlockLaws.{made-append, starts-length}
+use Rattle.table.specs.Options.{Options, indexInterval, Addition}
+use Rattle.table.specs.Build.{Chunk, Building, pairOf, framed, chunkBytes, written, endOf, indexPairs, filtersOf, close}
+use Rattle.table.specs.Runs.{Runs, filtersNow, entriesOf, restartsIn, held, between, overlay, overlaid, FitsRoom}
+use Rattle.table.specs.Counts.{Counts, countsOf, countClose, handleSize}
+use Rattle.codec.proofs.TrailerLaws.{trailer-length}
+use Rattle.table.proofs.FrameLaws.{framed-length}
+use Rattle.table.proofs.StepLaws.{written-append, index-append, filters-append}
+use Rattle.table.proofs.CountsLaws.{chunk-size, counts-close}
+use Rattle.builder.specs.declared.table_builder.Builder.{Builder}
+use Rattle.builder.specs.State.{optionsOf, countsIn}
+use Rattle.builder.specs.Steps.{Small, Whole, openSize, endsAt, closedState}
+use Rattle.builder.specs.Writes.{tailedOut, sealedOut, ClosedRuns}
+use Rattle.builder.proofs.SizeLaws.{closed-counts, index-countable}
+use Rattle.builder.proofs.WriteLaws.{handle-most}
+use Rattle.builder.proofs.OverlayLaws.{overlay-none, overlay-front, overlay-of, overlay-put, overlay-first, overlay-same, filters-until, waits-until, starts-append}
+
+-- ---- a state that counts a table being built
+
+pub record Counted (o : Options) (b : Building) (s : Builder) : Type 0 where
+  pub options : optionsOf (s .options) ≡ o
+  pub counts : countsIn s ≡ countsOf o b
+  pub interval : s .pending .interval ≡ o .interval
+  pub indexInterval : s .indexed .interval ≡ indexInterval o
+  pub whole : Whole s
+
+-- runs that are long enough for a room
+pub record Rooms (room : ℕ) (r : Runs) : Type 0 where
+  pub limit : room ≤ 16777216
+  pub out : room ≤ length (r .out)
+  pub index : room ≤ length (r .index)
+  pub filters : room ≤ length (r .filters)
+  pub restarts : room / 4 ≤ length (r .restarts)
+  pub indexRestarts : room / 4 ≤ length (r .indexRestarts)
+  pub offsets : room / 4 ≤ length (r .offsets)
+  pub hashes : room / 4 ≤ length (r .hashes)
+
+-- the lengths of what the runs hold are the state's numbers
+pub record Lens (d : Runs) (s : Builder) : Type 0 where
+  pub out : length (d .out) ≡ s .written + s .pending .bytes
+  pub index : length (d .index) ≡ s .indexed .bytes
+  pub filters : length (d .filters) ≡ s .filtered
+  pub restarts : length (d .restarts) ≡ s .pending .restarts
+  pub indexRestarts : length (d .indexRestarts) ≡ s .indexed .restarts
+  pub offsets : length (d .offsets) ≡ s .made
+  pub hashes : length (d .hashes) ≡ s .waiting
+
+module _ {o : Options} {b : Building} {s : Builder} (h : Counted o b s) where
+  abbrev ps : List Pair
+  ps = map pairOf (b .openBlock)
+
+  abbrev is : List Pair
+  is = indexPairs o 0 (b .closed)
+
+  abbrev fs : Filters
+  fs = filtersNow o b
+
+  pub counting : Counting (o .interval) ps (s .pending)
+  counting = record { every = h .interval; counts = unfold countsIn countsOf in ap (λ (c : Counts). c .openBlock) (h .counts); whole = h .whole .pending }
+
+  pub index-counting : Counting (indexInterval o) is (s .indexed)
+  index-counting = record { every = h .indexInterval; counts = unfold countsIn countsOf in ap (λ (c : Counts). c .index) (h .counts); whole = h .whole .indexed }
+
+  pub written-is : s .written ≡ length (written o (b .closed))
+  unfolding countsIn countsOf
+  written-is = ap (λ (c : Counts). c .written) (h .counts)
+
+  filters-is : record { bytes = s .filtered; made = s .made; waiting = s .waiting } ≡ filterCountOf (o .filtering) fs
+  unfolding countsIn countsOf
+  filters-is = ap (λ (c : Counts). c .filters) (h .counts)
+
+  pub bytes-is : s .pending .bytes ≡ length (packed (o .interval) (o .interval) [] ps)
+  unfolding countIn countOf
+  bytes-is = ap (λ (c : BlockCount). c .bytes) (counting .counts)
+
+  pub restarts-is : s .pending .restarts ≡ length (restartsOf (o .interval) (o .interval) [] 0 ps)
+  unfolding countIn countOf
+  restarts-is = ap (λ (c : BlockCount). c .restarts) (counting .counts)
+
+  index-bytes-is : s .indexed .bytes ≡ length (packed (indexInterval o) (indexInterval o) [] is)
+  unfolding countIn countOf
+  index-bytes-is = ap (λ (c : BlockCount). c .bytes) (index-counting .counts)
+
+  index-restarts-is : s .indexed .restarts ≡ length (restartsOf (indexInterval o) (indexInterval o) [] 0 is)
+  unfolding countIn countOf
+  index-restarts-is = ap (λ (c : BlockCount). c .restarts) (index-counting .counts)
+
+  pub filtered-is : s .filtered ≡ length (madeBytes (o .filtering) (fs .made))
+  unfolding filterCountOf
+  filtered-is = ap (λ (c : FilterCount). c .bytes) filters-is
+
+  pub made-is : s .made ≡ length (fs .made)
+  unfolding filterCountOf
+  made-is = ap (λ (c : FilterCount). c .made) filters-is
+
+  pub waiting-is : s .waiting ≡ length (fs .waiting)
+  unfolding filterCountOf
+  waiting-is = ap (λ (c : FilterCount). c .waiting) filters-is
+
+  pub lens : Lens (between o b) s
+  unfolding between held entriesOf restartsIn
+  lens =
+      record {
+        out = simp length-append (omega (arith, written-is, bytes-is));
+        index = sym index-bytes-is;
+        filters = sym filtered-is;
+        restarts = sym restarts-is;
+        indexRestarts = sym index-restarts-is;
+        offsets = starts-length (o .filtering) 0 (fs .made) ∙ sym made-is;
+        hashes = sym waiting-is;
+      }
+
+  -- the open block stands in runs that hold the table
+  pub open-stands : {e q : List ℕ} (r r′ : List ℕ) → e ≡ overlay (between o b .out) r → q ≡ overlay (between o b .restarts) r′ → Blocks.Stands (o .interval) ps (s .pending) (s .written) e q
+  unfolding between held entriesOf restartsIn part overlay
+  open-stands {e} {q} r r′ p m =
+      let i = o .interval in
+      let f = overlay-first (written o (b .closed)) (packed i i [] ps) e r p in
+      record {
+        counting = counting;
+        entries = rw (written-is, bytes-is) (f .1);
+        marks = rw (restarts-is, m) (take-all (restartsOf i i [] 0 ps) (drop (length (restartsOf i i [] 0 ps)) r′));
+      }
+    where
+      take-all : (w r : List ℕ) → take (length w) (w ++ r) ≡ w
+      take-all w r = take-at w r (length w) refl
+
+  -- and so does the index
+  pub index-stands : {e q : List ℕ} (r r′ : List ℕ) → e ≡ overlay (between o b .index) r → q ≡ overlay (between o b .indexRestarts) r′ → Blocks.Stands (indexInterval o) is (s .indexed) 0 e q
+  unfolding between held entriesOf restartsIn part overlay
+  index-stands {e} {q} r r′ p m =
+      let i = indexInterval o in
+      record {
+        counting = index-counting;
+        entries = rw (index-bytes-is, p) (take-at (packed i i [] is) (drop (length (packed i i [] is)) r) (length (packed i i [] is)) refl);
+        marks = rw (index-restarts-is, m) (take-at (restartsOf i i [] 0 is) (drop (length (restartsOf i i [] 0 is)) r′) (length (restartsOf i i [] 0 is)) refl);
+      }
+
+-- ---- an entry that fits
+
+pub fits-addable : (b : BlockBuilder) (at : ℕ) (out restarts key value : List ℕ) → countable b key (length value) ≡ true
+    → at + builderAfter b key (length value) .bytes ≤ length out → builderAfter b key (length value) .restarts ≤ length restarts → b .bytes < 2 ^ 32
+    → addable b at out restarts key value ≡ true
+unfolding builderAfter builderWith
+fits-addable b at out restarts key value c x y m =
+    let e = countEntry (b .interval) (countIn b) key (length value) in
+    addable-room b at out restarts key value c ∙ sym (room-mark (length out) at (e .bytes) (length restarts) (e .restarts) (b .bytes) x y) ∙ lt-ltb (b .bytes) (2 ^ 32) m
+
+-- a block at the front of two runs
+pub entry-overlay : {i : ℕ} {qs : List Pair} {b : BlockBuilder} {x y : List ℕ} (x₀ y₀ : List ℕ) → Blocks.Stands i qs b 0 x y → drop (0 + b .bytes) x ≡ drop (0 + b .bytes) x₀ → drop (b .restarts) y ≡ drop (b .restarts) y₀
+    → (x ≡ overlay (packed i i [] qs) x₀) × (y ≡ overlay (restartsOf i i [] 0 qs) y₀)
+unfolding part countIn countOf
+entry-overlay {i} {qs} {b} {x} {y} x₀ y₀ s p q =
+    let n : b .bytes ≡ length (packed i i [] qs) = ap (λ (c : BlockCount). c .bytes) (s .counting .counts) in
+    let m : b .restarts ≡ length (restartsOf i i [] 0 qs) = ap (λ (c : BlockCount). c .restarts) (s .counting .counts) in (
+      overlay-of (packed i i [] qs) x x₀ (rw n at (s .entries)) (rw (zero-add (b .bytes), n) at p),
+      overlay-of (restartsOf i i [] 0 qs) y y₀ (rw m at (s .marks)) (rw m at q),
+    )
+
+pub made-room : (c : Filtering) (gs : List (List ℕ)) (bytes made : ℕ) (f q : List ℕ) → bytes + length (madeBytes c gs) ≤ length f → made + length (starts c bytes gs) ≤ length q
+    → bytes + length (madeBytes c gs) ≤ 2 ^ 32 - 1 → roomFor c bytes gs f q made ≡ true
+unfolding roomFor room
+made-room c gs bytes made f q x y z =
+    rw (le-leb (bytes + length (madeBytes c gs)) (length f) x, le-leb (made + length (starts c bytes gs)) (length q) y, le-leb (bytes + length (madeBytes c gs)) (2 ^ 32 - 1) z)
+
+-- ---- a block closed
+
+pub options-interval : (s : Builder) (o : Options) → optionsOf (s .options) ≡ o → s .options .interval ≡ o .interval
+unfolding optionsOf
+options-interval s o e = ap (λ (x : Options). x .interval) e
+
+pub options-filter : (s : Builder) (o : Options) → optionsOf (s .options) ≡ o → choiceOf (s .options .filter) ≡ o .filtering
+unfolding optionsOf
+options-filter s o e = ap (λ (x : Options). x .filtering) e
+
+part-put : (d : List ℕ) (at : ℕ) (bs : List ℕ) → at + length bs ≤ length d → part (put d at bs) at (length bs) ≡ bs
+part-put d at bs h =
+    let e = put-behind d at 0 bs (omega arith) in
+    unfold part in rw (add-zero at, zero-add (length bs)) at e
+
+module _ {o : Options} {b : Building} {s : Builder} (h : Counted o b s) (m : Small s) (key : List ℕ) (k : length key ≤ 1032) where
+  pub closed-counted : Counted o (close key b) (closedState s key)
+  closed-counted =
+      record {
+        options = unfold closedState in h .options;
+        counts =
+            closed-counts s m (h .whole) key k ∙ ap₂ (λ (x : Options) (c : Counts). countClose x key c) (h .options) (h .counts) ∙ sym (counts-close o key b);
+        interval = unfold closedState newBuilder in options-interval s o (h .options);
+        indexInterval = unfold closedState builderAfter builderWith in h .indexInterval;
+        whole =
+            record {
+              pending = unfold closedState newBuilder in length-replicate {A = ℕ} 1032 0;
+              indexed = unfold closedState builderAfter builderWith in put-length (s .indexed .last) 0 key ∙ h .whole .indexed;
+            };
+      }
+
+  abbrev d : Building
+  d = close key b
+
+  abbrev chunk : Chunk
+  chunk = record { additions = b .openBlock; key = key }
+
+  size-is : openSize s ≡ length (chunkBytes o (b .openBlock))
+  unfolding openSize
+  size-is = ap countSize (counting h .counts) ∙ sym (chunk-size o (b .openBlock))
+
+  -- the output
+  out-is : between o d .out ≡ written o (b .closed) ++ framed (chunkBytes o (b .openBlock))
+  unfolding between held close entriesOf packed written
+  out-is = append-nil _ ∙ written-append o (b .closed) (chunk ∷ []) ∙ ap (λ (x : List ℕ). written o (b .closed) ++ x) (append-nil (framed (chunkBytes o (b .openBlock))))
+
+  pub closed-out : (out rs : List ℕ) → out ≡ overlay (between o b .out) out → rs ≡ overlay (between o b .restarts) rs → length (between o d .out) ≤ length out
+      → sealedOut out (s .written) (s .pending) rs ≡ overlay (between o d .out) out
+  unfolding sealedOut framed
+  closed-out out rs p q l =
+      let i = o .interval in
+      let w = written o (b .closed) in
+      let e = chunkBytes o (b .openBlock) in
+      let at = s .written in
+      let st = open-stands h out rs p q in
+      let n : length (w ++ framed e) ≤ length out = rw out-is at l in
+      let f = framed-length e in
+      let g = length-append w (framed e) in
+      let y = written-is h in
+      let fit : at + length e ≤ length out = omega arith in
+      let t : tailedOut out at (s .pending) rs ≡ put out at e = unfold tailedOut chunkBytes in stands-finish st (record { said = refl; left = refl }) .left in
+      let z : countSize (countIn (s .pending)) ≡ length e = unfold openSize in size-is in
+      ap₂ (λ (x : List ℕ) (c : ℕ). put x (at + c) (trailer (part x at c))) t z
+      ∙ ap (λ (x : List ℕ). put (put out at e) (at + length e) (trailer x)) (part-put out at e fit)
+      ∙ put-put out at e (trailer e) (omega (arith, trailer-length e))
+      ∙ overlay-put w (framed e) out out at y (whole-front out p) n
+      ∙ ap (λ (x : List ℕ). overlay x out) (sym out-is)
+    where
+      whole-front : (out : List ℕ) → out ≡ overlay (between o b .out) out → out ≡ overlay (written o (b .closed)) out
+      whole-front out p = unfold between held entriesOf in overlay-same (written o (b .closed)) _ out p
+
+  -- the index
+  abbrev handle : List ℕ
+  handle = handleBytes (record { offset = s .written; size = openSize s })
+
+  abbrev pair : Pair
+  pair = record { key = key; value = handle }
+
+  index-is : indexPairs o 0 (d .closed) ≡ indexPairs o 0 (b .closed) ++ (pair ∷ [])
+  unfolding close indexPairs
+  index-is =
+      index-append o 0 (b .closed) (chunk ∷ [])
+      ∙ ap₂ (λ (at n : ℕ). indexPairs o 0 (b .closed) ++ (record { key = key; value = handleBytes (record { offset = at; size = n }) } ∷ []))
+      (zero-add (length (written o (b .closed))) ∙ sym (written-is h)) (sym size-is)
+
+  index-of : between o d .index ≡ packed (indexInterval o) (indexInterval o) [] (indexPairs o 0 (b .closed) ++ (pair ∷ []))
+  unfolding between held entriesOf
+  index-of = ap (packed (indexInterval o) (indexInterval o) []) index-is
+
+  index-restarts-of : between o d .indexRestarts ≡ restartsOf (indexInterval o) (indexInterval o) [] 0 (indexPairs o 0 (b .closed) ++ (pair ∷ []))
+  unfolding between held restartsIn
+  index-restarts-of = ap (restartsOf (indexInterval o) (indexInterval o) [] 0) index-is
+
+  handle-long : length handle ≡ handleSize (s .written) (openSize s)
+  unfolding handleBytes handleSize
+  handle-long = simp length-append
+
+  pub closed-index : (x y : List ℕ) {x′ y′ : List ℕ} {a : Added} → AddedIs (s .indexed) 0 x x′ y y′ key handle a
+      → x ≡ overlay (between o b .index) x → y ≡ overlay (between o b .indexRestarts) y
+      → length (between o d .index) ≤ length x → length (between o d .indexRestarts) ≤ length y → length (between o b .index) < 2 ^ 32
+      → (x′ ≡ overlay (between o d .index) x) × (y′ ≡ overlay (between o d .indexRestarts) y)
+  closed-index x y {x′} {y′} {a} g p q lx ly u =
+      let st = index-stands h x y p q in
+      let after = lens closed-counted in
+      let z : builderAfter (s .indexed) key (length handle) ≡ closedState s key .indexed = unfold closedState in ap (builderAfter (s .indexed) key) handle-long in
+      let zb = ap (λ (c : BlockBuilder). c .bytes) z in
+      let zr = ap (λ (c : BlockBuilder). c .restarts) z in
+      let fits : a .fits ≡ true =
+      g .fits ∙ fits-addable (s .indexed) 0 x y key handle (index-countable s m key k (length handle) (handle-most (s .written) (openSize s))) (omega (arith, after .index)) (omega (arith, after .indexRestarts))
+      (omega (arith, lens h .index)) in
+      let more = stands-more st pair g fits in
+      let kept = added-kept g in
+      let r = entry-overlay x y more (kept .0 .after) (kept .1 .after) in
+      (r .0 ∙ ap (λ (z : List ℕ). overlay z x) (sym index-of), r .1 ∙ ap (λ (z : List ℕ). overlay z y) (sym index-restarts-of))
+
+  -- the filters
+  filters-close : filtersNow o d ≡ filtersUpTo (endsAt s) (filtersNow o b)
+  unfolding close filtersNow filtersOf endOf endsAt
+  filters-close =
+      wait-none _
+      ∙ filters-append o 0 noFilters (b .closed) (chunk ∷ [])
+      ∙ ap₂ (λ (at n : ℕ). filtersUpTo (at + n + 5) (filtersNow o b)) (zero-add (length (written o (b .closed))) ∙ sym (written-is h)) (sym size-is)
+    where
+      wait-none : (f : Filters) → wait [] f ≡ f
+      wait-none f = unfold wait in rw append-nil
+
+  abbrev groups : List (List ℕ)
+  groups = groupsUpTo (length (filtersNow o b .made)) (endsAt s / 2048) (filtersNow o b .waiting)
+
+  made-close : filtersNow o d .made ≡ filtersNow o b .made ++ groups
+  unfolding filtersUpTo
+  made-close = ap (λ (f : Filters). f .made) filters-close ∙ filters-until (endsAt s / 2048) (filtersNow o b)
+
+  waits-close : (P : List ℕ → Type 0) → P (filtersNow o b .waiting) → P [] → P (filtersNow o d .waiting)
+  unfolding filtersUpTo
+  waits-close P p q = rw filters-close (waits-until P (endsAt s / 2048) (filtersNow o b) p q)
+
+  pub closed-hashes : (hs : List ℕ) → hs ≡ overlay (between o b .hashes) hs → hs ≡ overlay (between o d .hashes) hs
+  unfolding between held
+  closed-hashes hs p = waits-close (λ (w : List ℕ). hs ≡ overlay w hs) p (overlay-none hs)
+
+  pub closed-filters : (f q hs : List ℕ) {f′ q′ : List ℕ} {e : Made}
+      → MadeFilters (choiceOf (s .options .filter)) (groupsUpTo (s .made) (endsAt s / 2048) (take (s .waiting) hs)) (s .filtered) (s .made) e f f′ q q′
+      → hs ≡ overlay (between o b .hashes) hs → f ≡ overlay (between o b .filters) f → q ≡ overlay (between o b .offsets) q
+      → length (between o d .filters) ≤ length f → length (between o d .offsets) ≤ length q → length (between o d .filters) ≤ 2 ^ 32 - 1
+      → (f′ ≡ overlay (between o d .filters) f) × (q′ ≡ overlay (between o d .offsets) q)
+  unfolding between held
+  closed-filters f q hs {f′} {q′} {e} g ph pf pq lf lq u =
+      let c = o .filtering in
+      let ms = filtersNow o b .made in
+      let gs = groups in
+      let w : take (s .waiting) hs ≡ filtersNow o b .waiting = rw (waiting-is h) (overlay-front (filtersNow o b .waiting) hs hs ph) in
+      let gg : groupsUpTo (s .made) (endsAt s / 2048) (take (s .waiting) hs) ≡ gs = ap₂ (λ (n : ℕ) (v : List ℕ). groupsUpTo n (endsAt s / 2048) v) (made-is h) w in
+      let x : MadeFilters c gs (s .filtered) (s .made) e f f′ q q′ = rw (options-filter s o (h .options), gg) at g in
+      let mb : madeBytes c (filtersNow o d .made) ≡ madeBytes c ms ++ madeBytes c gs = ap (madeBytes c) made-close ∙ made-append c ms gs in
+      let ob : starts c 0 (filtersNow o d .made) ≡ starts c 0 ms ++ starts c (s .filtered) gs =
+      ap (starts c 0) made-close ∙ starts-append c 0 ms gs ∙ ap (λ (n : ℕ). starts c 0 ms ++ starts c n gs) (zero-add (length (madeBytes c ms)) ∙ sym (filtered-is h)) in
+      let lm : length (madeBytes c ms ++ madeBytes c gs) ≤ length f = rw mb at lf in
+      let lo : length (starts c 0 ms ++ starts c (s .filtered) gs) ≤ length q = rw ob at lq in
+      let lu : length (madeBytes c ms ++ madeBytes c gs) ≤ 2 ^ 32 - 1 = rw mb at u in
+      let nm = length-append (madeBytes c ms) (madeBytes c gs) in
+      let no′ = length-append (starts c 0 ms) (starts c (s .filtered) gs) in
+      let sl = starts-length c 0 ms in
+      let bi = filtered-is h in
+      let mi = made-is h in
+      let ok : roomFor c (s .filtered) gs f q (s .made) ≡ true =
+      made-room c gs (s .filtered) (s .made) f q (omega arith) (omega arith) (omega arith) in
+      let nf : s .made ≡ length (starts c 0 ms) = omega arith in (
+        x .filters ∙ rw ok (overlay-put (madeBytes c ms) (madeBytes c gs) f f (s .filtered) bi pf lm ∙ ap (λ (z : List ℕ). overlay z f) (sym mb)),
+        x .offsets ∙ rw ok (overlay-put (starts c 0 ms) (starts c (s .filtered) gs) q q (s .made) nf pq lo ∙ ap (λ (z : List ℕ). overlay z q) (sym ob)),
+      )
+
+  -- all seven
+  pub closed-all : (room : ℕ) (r r′ : Runs) → Rooms room r → FitsRoom room (between o b) → FitsRoom room (between o d) → r ≡ overlaid (between o b) r → ClosedRuns s key r r′
+      → r′ ≡ overlaid (between o d) r
+  unfolding overlaid
+  closed-all room r r′ z t u p g =
+      let lo = u .out in
+      let ix = closed-index (r .index) (r .indexRestarts) (g .index) (ap (λ (x : Runs). x .index) p) (ap (λ (x : Runs). x .indexRestarts) p) (omega (arith, u .index, z .index))
+      (omega (arith, u .indexRestarts, z .indexRestarts)) (omega (arith, t .index, z .limit)) in
+      let fx = closed-filters (r .filters) (r .offsets) (r .hashes) (g .filters) (ap (λ (x : Runs). x .hashes) p) (ap (λ (x : Runs). x .filters) p) (ap (λ (x : Runs). x .offsets) p)
+      (omega (arith, u .filters, z .filters)) (omega (arith, u .offsets, z .offsets)) (omega (arith, u .filters, z .limit)) in
+      let ox = g .out ∙ closed-out (r .out) (r .restarts) (ap (λ (x : Runs). x .out) p) (ap (λ (x : Runs). x .restarts) p) (omega (arith, u .out, z .out)) in
+      let rx : r′ .restarts ≡ overlay (between o d .restarts) (r .restarts) = g .restarts ∙ (unfold between held close restartsIn restartsOf in overlay-none (r .restarts)) in
+      let hx = g .hashes ∙ closed-hashes (r .hashes) (ap (λ (x : Runs). x .hashes) p) in
+      λ i. record { out = ox i; index = ix .0 i; filters = fx .0 i; restarts = rx i; indexRestarts = ix .1 i; offsets = fx .1 i; hashes = hx i }

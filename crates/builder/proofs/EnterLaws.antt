@@ -1,0 +1,249 @@
+-- What one entry more leaves in the runs.
+use Prim.Native.Nat.{ℕ, suc, _+_, _-_, _/_, _^_, _≤_, _<_, min}
+use mathlib.Core.Path.{_≡_, refl, sym, ap, ap₂, _∙_}
+use mathlib.Core.List.{List, [], _∷_, _++_, map, map-append, append-nil}
+use mathlib.Core.Bool.{Bool, true, false}
+use native.Mathlib.Numerals.{add-one}
+use native.Mathlib.Omega.{arith}
+use lib.ListN.{length, take, drop, length-append, length-take}
+use lib.Seq.{take-take}
+use Rattle.codec.specs.Bytes.{part}
+use Rattle.codec.specs.Put.{put}
+use Rattle.codec.proofs.Prelude.{test}
+use Rattle.codec.proofs.PutLaws.{put-length, put-before}
+use Rattle.block.specs.declared.block_builder.BlockBuilder.{BlockBuilder}
+use Rattle.block.specs.declared.block_builder.Added.{Added}
+use Rattle.block.specs.Block.{Pair, packed, restartsOf}
+use Rattle.block.specs.Count.{BlockCount, countOf, countEntry}
+use Rattle.block.specs.Builder as Blocks
+use Rattle.block.specs.Builder.{countIn, builderAfter, builderWith, AddedIs}
+use Rattle.block.proofs.BuilderLaws.{stands-more, added-kept, added-did}
+use Rattle.block.proofs.BuilderCode.{next-bytes, next-restarts}
+use Rattle.block.proofs.CountLaws.{count-entry}
+use Rattle.filter.specs.Filter.{hash}
+use Rattle.filter.specs.FilterBlock.{Filters, noFilters, wait, madeBytes, starts}
+use Rattle.filter.specs.FilterCount.{FilterCount, countWaiting}
+use Rattle.filter.proofs.FilterCountLaws.{wait-append, count-wait}
+use Rattle.table.specs.Options.{Options, indexInterval, Addition}
+use Rattle.table.specs.Build.{Building, keyOf, pairOf, written, indexPairs, filtersOf}
+use Rattle.table.specs.Runs.{Runs, filtersNow, entriesOf, restartsIn, held, between, overlay, overlaid, FitsRoom}
+use Rattle.table.specs.Counts.{Counts, countsOf}
+use Rattle.builder.specs.declared.table_builder.Builder.{Builder}
+use Rattle.builder.specs.State.{countsIn}
+use Rattle.builder.specs.Steps.{Roomy, Whole, enteredState}
+use Rattle.builder.specs.Writes.{EnteredRuns}
+use Rattle.builder.proofs.SizeLaws.{count-after, countable-small}
+use Rattle.builder.proofs.OverlayLaws.{overlay-front, overlay-behind, overlay-of, overlay-put, overlay-first, overlay-at, overlay-long}
+use Rattle.builder.proofs.CloseLaws.{Counted, Rooms, Lens, lens, open-stands, written-is, bytes-is, restarts-is, waiting-is, fits-addable}
+
+-- the building with an addition in the open block
+abbrev pub with : Building → Addition → Building
+with c a = record { closed = c .closed; openBlock = c .openBlock ++ (a ∷ []) }
+
+counts-put : (o : Options) (b : Building) (a : Addition) → countsOf o (with b a)
+    ≡ (let c = countsOf o b in
+    record {
+      written = c .written;
+      openBlock = countEntry (o .interval) (c .openBlock) (keyOf a) (length (a .value));
+      index = c .index;
+      filters = countWaiting (c .filters);
+    })
+unfolding countsOf filtersNow pairOf
+counts-put o b a = rw (map-append pairOf (b .openBlock) (a ∷ []), map-append, wait-append, count-wait, count-entry)
+
+-- a start of a start
+take-less : (n m : ℕ) (x y : List ℕ) → n ≤ m → take m x ≡ take m y → take n x ≡ take n y
+take-less n m x y h e = sym (take-take n m x h) ∙ ap (take n) e ∙ take-take n m y h
+
+module _ {o : Options} {c : Building} {s : Builder} (h : Counted o c s) (a : Addition) (y : Roomy s (length (keyOf a)) (length (a .value))) where
+  abbrev n : Builder
+  n = enteredState s (keyOf a) (length (a .value))
+
+  pub entered-counted : Counted o (with c a) n
+  entered-counted =
+      record {
+        options = unfold enteredState in h .options;
+        counts = step ∙ sym (counts-put o c a);
+        interval = unfold enteredState builderAfter builderWith in h .interval;
+        indexInterval = unfold enteredState in h .indexInterval;
+        whole =
+            record {
+              pending = unfold enteredState builderAfter builderWith in put-length (s .pending .last) 0 (keyOf a) ∙ h .whole .pending;
+              indexed = unfold enteredState in h .whole .indexed;
+            };
+      }
+    where
+      step : countsIn n
+          ≡ (let d = countsOf o c in
+          record {
+            written = d .written;
+            openBlock = countEntry (o .interval) (d .openBlock) (keyOf a) (length (a .value));
+            index = d .index;
+            filters = countWaiting (d .filters);
+          })
+      step =
+          unfold countsIn enteredState countWaiting in
+          let k = keyOf a in
+          let v = length (a .value) in
+          let x = count-after (s .pending) k v (y .key) (h .whole .pending) in
+          let e = h .counts in
+          λ i. record {
+            written = e i .written;
+            openBlock = (x ∙ ap₂ (λ (j : ℕ) (q : BlockCount). countEntry j q k v) (h .interval) (ap (λ (q : Counts). q .openBlock) e)) i;
+            index = e i .index;
+            filters = (ap (λ (w : ℕ). record { bytes = s .filtered; made = s .made; waiting = w }) (add-one (s .waiting)) ∙ ap (λ (q : Counts). countWaiting (q .filters)) e) i;
+          }
+
+  -- what is held before is no more
+  pub enter-fits : (room : ℕ) → FitsRoom room (between o (with c a)) → FitsRoom room (between o c)
+  enter-fits room f =
+      let x = lens h in
+      let z = lens entered-counted in
+      let p = next-bytes (s .pending) (keyOf a) (a .value) in
+      let q = next-restarts (s .pending) (keyOf a) (a .value) in
+      unfold enteredState builderAfter builderWith in
+      record {
+        out = omega (arith, x .out, z .out, f .out);
+        index = omega (arith, x .index, z .index, f .index);
+        filters = omega (arith, x .filters, z .filters, f .filters);
+        restarts = omega (arith, x .restarts, z .restarts, f .restarts);
+        indexRestarts = omega (arith, x .indexRestarts, z .indexRestarts, f .indexRestarts);
+        offsets = omega (arith, x .offsets, z .offsets, f .offsets);
+        hashes = omega (arith, x .hashes, z .hashes, f .hashes);
+      }
+
+  abbrev ps : List Pair
+  ps = map pairOf (c .openBlock)
+
+  abbrev pair : Pair
+  pair = record { key = keyOf a; value = a .value }
+
+  pairs-with : map pairOf (with c a .openBlock) ≡ ps ++ (pair ∷ [])
+  unfolding pairOf
+  pairs-with = map-append pairOf (c .openBlock) (a ∷ [])
+
+  filters-with : filtersNow o (with c a) ≡ wait (hash (a .word) ∷ []) (filtersNow o c)
+  unfolding filtersNow
+  filters-with = rw (map-append, wait-append)
+
+  module _ (room : ℕ) (r r₁ : Runs) (z : Rooms room r) (f : FitsRoom room (between o (with c a))) (p : r₁ ≡ overlaid (between o c) r) where
+    out-eq : r₁ .out ≡ overlay (between o c .out) (r .out)
+    unfolding overlaid
+    out-eq = ap (λ (x : Runs). x .out) p
+
+    restarts-eq : r₁ .restarts ≡ overlay (between o c .restarts) (r .restarts)
+    unfolding overlaid
+    restarts-eq = ap (λ (x : Runs). x .restarts) p
+
+    hashes-eq : r₁ .hashes ≡ overlay (between o c .hashes) (r .hashes)
+    unfolding overlaid
+    hashes-eq = ap (λ (x : Runs). x .hashes) p
+
+    module _ {out′ restarts′ : List ℕ} {x : Added} (g : AddedIs (s .pending) (s .written) (r₁ .out) out′ (r₁ .restarts) restarts′ (keyOf a) (a .value) x) where
+      entry-fits : x .fits ≡ true
+      unfolding enteredState
+      entry-fits =
+          let before = enter-fits room f in
+          let l = lens h in
+          let l′ = lens entered-counted in
+          let lo = overlay-long (between o c .out) (r₁ .out) (r .out) out-eq (omega (arith, before .out, z .out)) in
+          let lr = overlay-long (between o c .restarts) (r₁ .restarts) (r .restarts) restarts-eq (omega (arith, before .restarts, z .restarts)) in
+          g .fits
+          ∙ fits-addable (s .pending) (s .written) (r₁ .out) (r₁ .restarts) (keyOf a) (a .value)
+          (countable-small (s .pending) (keyOf a) (length (a .value)) (y .key) (omega (arith, y .value)) (omega (arith, y .bytes)) (omega (arith, y .restarts)) (y .since) (y .least) (y .most))
+          (omega (arith, l′ .out, f .out, z .out))
+          (omega (arith, l′ .restarts, f .restarts, z .restarts))
+          (omega (arith, y .bytes))
+
+      after-stands : Blocks.Stands (o .interval) (ps ++ (pair ∷ [])) (x .block) (s .written) out′ restarts′
+      after-stands = stands-more (open-stands h (r .out) (r .restarts) out-eq restarts-eq) pair g entry-fits
+
+      block-bytes : x .block .bytes ≡ length (packed (o .interval) (o .interval) [] (ps ++ (pair ∷ [])))
+      unfolding countIn countOf
+      block-bytes = ap (λ (q : BlockCount). q .bytes) (after-stands .counting .counts)
+
+      block-restarts : x .block .restarts ≡ length (restartsOf (o .interval) (o .interval) [] 0 (ps ++ (pair ∷ [])))
+      unfolding countIn countOf
+      block-restarts = ap (λ (q : BlockCount). q .restarts) (after-stands .counting .counts)
+
+      grows : (s .pending .bytes ≤ x .block .bytes) × (s .pending .restarts ≤ x .block .restarts)
+      unfolding builderAfter builderWith
+      grows =
+          let e = added-did g entry-fits .0 in (
+            omega (arith, next-bytes (s .pending) (keyOf a) (a .value), ap (λ (q : BlockBuilder). q .bytes) e),
+            omega (arith, next-restarts (s .pending) (keyOf a) (a .value), ap (λ (q : BlockBuilder). q .restarts) e),
+          )
+
+      pub entered-out : out′ ≡ overlay (between o (with c a) .out) (r .out)
+      unfolding between held entriesOf
+      entered-out =
+          let w = written o (c .closed) in
+          let i = o .interval in
+          let e = packed i i [] ps in
+          let e′ = packed i i [] (ps ++ (pair ∷ [])) in
+          let kept = added-kept g .0 in
+          let wi = written-is h in
+          let bi = bytes-is h in
+          let bb = block-bytes in
+          let gr = grows .0 in
+          let lw = length-append w e in
+          let front : take (length w) out′ ≡ w = take-less (length w) (s .written + s .pending .bytes) out′ (r₁ .out) (omega arith) (kept .before) ∙ overlay-first w e (r₁ .out) (r .out) out-eq .0 in
+          let there : part out′ (length w) (length e′) ≡ e′ = rw (wi, bb) at (after-stands .entries) in
+          let gap : s .written + x .block .bytes ≡ length (w ++ e) + (length e′ - length e) = omega arith in
+          let gap′ : s .written + x .block .bytes ≡ length w + length e′ = omega arith in
+          let back₁ : drop (s .written + x .block .bytes) (r₁ .out) ≡ drop (s .written + x .block .bytes) (r .out) = rw gap (overlay-behind (w ++ e) (r₁ .out) (r .out) out-eq (length e′ - length e)) in
+          let back : drop (length w + length e′) out′ ≡ drop (length w + length e′) (r .out) = rw gap′ at (kept .after ∙ back₁) in
+          overlay-at w e′ out′ (r .out) front there back ∙ ap (λ (q : List Pair). overlay (w ++ packed i i [] q) (r .out)) (sym pairs-with)
+
+      pub entered-restarts : restarts′ ≡ overlay (between o (with c a) .restarts) (r .restarts)
+      unfolding between held restartsIn
+      entered-restarts =
+          let i = o .interval in
+          let e = restartsOf i i [] 0 ps in
+          let e′ = restartsOf i i [] 0 (ps ++ (pair ∷ [])) in
+          let kept = added-kept g .1 in
+          let ri = restarts-is h in
+          let br = block-restarts in
+          let gr = grows .1 in
+          let gap : x .block .restarts ≡ length e + (length e′ - length e) = omega arith in
+          let back₁ : drop (x .block .restarts) (r₁ .restarts) ≡ drop (x .block .restarts) (r .restarts) = rw gap (overlay-behind e (r₁ .restarts) (r .restarts) restarts-eq (length e′ - length e)) in
+          let back : drop (length e′) restarts′ ≡ drop (length e′) (r .restarts) = rw br at (kept .after ∙ back₁) in
+          overlay-of e′ restarts′ (r .restarts) (rw br at (after-stands .marks)) back ∙ ap (λ (q : List Pair). overlay (restartsOf i i [] 0 q) (r .restarts)) (sym pairs-with)
+
+    pub entered-hashes : {hashes′ : List ℕ} → hashes′ ≡ put (r₁ .hashes) (s .waiting) (hash (a .word) ∷ []) → hashes′ ≡ overlay (between o (with c a) .hashes) (r .hashes)
+    unfolding between held wait
+    entered-hashes e =
+        let w = filtersNow o c .waiting in
+        let x = hash (a .word) ∷ [] in
+        let q : filtersNow o (with c a) .waiting ≡ w ++ x = ap (λ (k : Filters). k .waiting) filters-with in
+        let l : length (w ++ x) ≤ length (r .hashes) = rw q at (hashes-room) in
+        e ∙ overlay-put w x (r₁ .hashes) (r .hashes) (s .waiting) (waiting-is h) hashes-eq l ∙ ap (λ (k : List ℕ). overlay k (r .hashes)) (sym q)
+      where
+        hashes-room : length (between o (with c a) .hashes) ≤ length (r .hashes)
+        hashes-room = omega (arith, f .hashes, z .hashes)
+
+    -- all seven
+    pub entered-all : (r₂ : Runs) → EnteredRuns s (keyOf a) (a .word) (a .value) (r₁ .out) (r₂ .out) (r₁ .restarts) (r₂ .restarts) (r₁ .hashes) (r₂ .hashes)
+        → r₂ .index ≡ r₁ .index → r₂ .filters ≡ r₁ .filters → r₂ .indexRestarts ≡ r₁ .indexRestarts → r₂ .offsets ≡ r₁ .offsets → r₂ ≡ overlaid (between o (with c a)) r
+    unfolding overlaid
+    entered-all r₂ g e₁ e₂ e₃ e₄ =
+        let x₀ = entered-out (g .entry) in
+        let x₁ = e₁ ∙ index-eq in
+        let x₂ = e₂ ∙ filters-eq in
+        let x₃ = entered-restarts (g .entry) in
+        let x₄ = e₃ ∙ index-restarts-eq in
+        let x₅ = e₄ ∙ offsets-eq in
+        let x₆ = entered-hashes (g .hash) in
+        λ i. record { out = x₀ i; index = x₁ i; filters = x₂ i; restarts = x₃ i; indexRestarts = x₄ i; offsets = x₅ i; hashes = x₆ i }
+      where
+        index-eq : r₁ .index ≡ overlay (between o (with c a) .index) (r .index)
+        index-eq = unfold overlaid between held in ap (λ (x : Runs). x .index) p
+
+        filters-eq : r₁ .filters ≡ overlay (between o (with c a) .filters) (r .filters)
+        filters-eq = unfold overlaid between held filtersNow wait in ap (λ (x : Runs). x .filters) p
+
+        index-restarts-eq : r₁ .indexRestarts ≡ overlay (between o (with c a) .indexRestarts) (r .indexRestarts)
+        index-restarts-eq = unfold overlaid between held in ap (λ (x : Runs). x .indexRestarts) p
+
+        offsets-eq : r₁ .offsets ≡ overlay (between o (with c a) .offsets) (r .offsets)
+        offsets-eq = unfold overlaid between held filtersNow wait in ap (λ (x : Runs). x .offsets) p

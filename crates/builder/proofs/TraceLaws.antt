@@ -1,0 +1,363 @@
+-- A state and runs that stand for a table: an addition is decided as the definitions say, and leaves what they say.
+use Prim.Native.Nat.{ℕ, zero, suc, _+_, _/_, _^_, _≤_, _<_, min}
+use mathlib.Core.Path.{_≡_, refl, sym, ap, ap₂, _∙_}
+use mathlib.Core.List.{List, [], _∷_, _++_, map}
+use mathlib.Core.Bool.{Bool, true, false, _&&_, cond}
+use native.Mathlib.Omega.{arith}
+use lib.Dec.{T, leb, ltb, eqb}
+use lib.ListN.{length, take, length-append}
+use borrow.Author.Tests.{le-leb, leb-true, eq-eqb}
+use Rattle.codec.proofs.Prelude.{test, both, is-true, true-is}
+use Rattle.keys.specs.Order.{below, separator}
+use Rattle.keys.proofs.KeyLaws.{internal-length}
+use Rattle.block.specs.Block.{Pair, lastKeyOf, sinceAll}
+use Rattle.block.specs.Formed.{within}
+use Rattle.block.specs.Count.{BlockCount, countOf, countSize}
+use Rattle.block.specs.Builder.{countIn, builderAfter, builderWith}
+use Rattle.block.proofs.CountLaws.{count-zero}
+use Rattle.filter.specs.FilterBlock.{Filtering, unfiltered, bitsPerKey}
+use Rattle.table.specs.Checked.{Checked, pass, refuse, _>>=_, ask}
+use Rattle.table.specs.Options.{Options, indexInterval, optionsFit, filteringFits, emptySize, tableLimit, Addition, additionFits}
+use Rattle.table.specs.Build.{Building, keyOf, pairOf, chunkBytes, begin, lastKey, indexPairs, close, closeBefore, add, finish, above, accept, acceptAll}
+use Rattle.table.specs.Runs.{Runs, between, finished, overlay, overlaid, FitsRoom, roomOf, startOf}
+use Rattle.table.specs.Counts.{Counts, countsOf, finishedSize}
+use Rattle.table.proofs.CheckedLaws.{passing, asking, ask-pass, pass-same}
+use Rattle.table.proofs.AcceptLaws.{within-parts}
+use Rattle.table.proofs.CountsLaws.{chunk-size, size-finished}
+use Rattle.table.proofs.SufficeLaws.{runs-suffice}
+use Rattle.builder.specs.declared.table_builder.Lengths.{Lengths}
+use Rattle.builder.specs.declared.table_builder.Builder.{Builder}
+use Rattle.builder.specs.State.{optionsOf, countsIn, lengthsOf, sameLengths, sizesFit, sane, Stands}
+use Rattle.builder.specs.Steps.{small, Small, Whole, Roomy, openSize, lastOf, closedState, enteredState, aboveLast, cutOf, sepOf, midOf, nextOf, fitsOf, decideOf}
+use Rattle.builder.specs.Writes.{ClosedRuns, CutRuns, EnteredRuns}
+use Rattle.builder.proofs.SizeLaws.{since-most, small-is}
+use Rattle.builder.proofs.DecideLaws.{sep-most, last-short, mid-not, mid-cut, mid-roomy, above-none, above-some}
+use Rattle.builder.proofs.OverlayLaws.{overlay-front, overlay-of, overlay-long}
+use Rattle.builder.proofs.CloseLaws.{Counted, Rooms, Lens, lens, counting, index-counting, options-interval, closed-counted, closed-all}
+use Rattle.builder.proofs.EnterLaws.{with, entered-counted, enter-fits, entered-all}
+
+-- ---- what start asked for
+
+pub record Began (o : Options) (r : Runs) : Type 0 where
+  pub fits : optionsFit o ≡ true
+  pub least : emptySize (o .filtering) ≤ roomOf (length (r .out))
+  pub rooms : Rooms (roomOf (length (r .out))) r
+
+empty-most : (c : Filtering) → emptySize c ≤ 123
+unfolding emptySize
+empty-most unfiltered = omega arith
+empty-most (bitsPerKey b) = omega arith
+
+pub began : (o : Options) (r : Runs) → startOf o r ≡ pass tt → Began o r
+unfolding startOf roomOf tableLimit
+began o r e =
+    asking 1 _ _ e λ f e.
+    asking 2 _ _ e λ x e.
+    asking 2 _ _ e λ y e.
+    asking 2 _ _ e λ z e.
+    let n = min 16777216 (length (r .out)) in
+    let a = leb-true (emptySize (o .filtering)) (length (r .out)) (is-true _ x) in
+    let u = both (leb n (length (r .index))) _ (is-true _ y) in
+    let v = both (leb (n / 4) (length (r .restarts))) _ (is-true _ z) in
+    let w = both (leb (n / 4) (length (r .offsets))) _ (is-true _ (ask-pass 2 _ e)) in
+    record {
+      fits = is-true _ f;
+      least = omega (arith, a, empty-most (o .filtering));
+      rooms =
+          record {
+            limit = omega arith;
+            out = omega arith;
+            index = leb-true _ _ (u .0);
+            filters = leb-true _ _ (u .1);
+            restarts = leb-true _ _ (v .0);
+            indexRestarts = leb-true _ _ (v .1);
+            offsets = leb-true _ _ (w .0);
+            hashes = leb-true _ _ (w .1);
+          };
+    }
+
+-- ---- a state that counts a table within the room is sane and small
+
+since-all : (i n : ℕ) (ps : List Pair) → 1 ≤ i → n ≤ i → sinceAll i n ps ≤ i
+unfolding sinceAll
+since-all i n [] h k = k
+since-all i n (p ∷ ps) h k = since-all i _ ps h (since-most i n h k)
+
+interval-least : (o : Options) → optionsFit o ≡ true → 1 ≤ o .interval
+unfolding optionsFit
+interval-least o f = within-parts 1 1024 (o .interval) (both (within 1 1024 (o .interval)) _ f .0) .0
+
+module _ {o : Options} {b : Building} {s : Builder} (h : Counted o b s) (f : optionsFit o ≡ true) (room : ℕ) (u : FitsRoom room (between o b)) (l : room ≤ 16777216) where
+  pub counted-small : small s ≡ true
+  unfolding small indexInterval
+  counted-small =
+      let i = o .interval in
+      let n = options-interval s o (h .options) in
+      let x = lens h in
+      let p : s .pending .since ≤ s .options .interval = unfold countIn countOf in omega (arith, ap (λ (c : BlockCount). c .since) (counting h .counts), since-all i i (map pairOf (b .openBlock)) (interval-least o f) (omega arith)) in
+      let q : s .indexed .since ≤ s .options .interval = unfold countIn countOf in omega (arith, ap (λ (c : BlockCount). c .since) (index-counting h .counts), since-all i i (indexPairs o 0 (b .closed)) (interval-least o f) (omega arith)) in
+      rw (
+        eq-eqb (s .pending .interval) (s .options .interval) (h .interval ∙ sym n),
+        eq-eqb (s .indexed .interval) (s .options .interval) (h .indexInterval ∙ sym n),
+        le-leb (s .pending .since) (s .options .interval) p,
+        le-leb (s .indexed .since) (s .options .interval) q,
+        le-leb (s .written) 16777216 (omega (arith, x .out, u .out)),
+        le-leb (s .pending .bytes) 16777216 (omega (arith, x .out, u .out)),
+        le-leb (s .pending .restarts) 16777216 (omega (arith, x .restarts, u .restarts)),
+        le-leb (s .indexed .bytes) 16777216 (omega (arith, x .index, u .index)),
+        le-leb (s .indexed .restarts) 16777216 (omega (arith, x .indexRestarts, u .indexRestarts)),
+        le-leb (s .filtered) 16777216 (omega (arith, x .filters, u .filters)),
+        le-leb (s .made) 16777216 (omega (arith, x .offsets, u .offsets)),
+        le-leb (s .waiting) 16777216 (omega (arith, x .hashes, u .hashes)),
+      )
+
+  pub counted-sane : (r : Runs) → Rooms room r → s .lengths ≡ lengthsOf r → (s .pending .len ≤ 1032) × (s .indexed .len ≤ 1032) → sane s (lengthsOf r) ≡ true
+  unfolding sane sizesFit sameLengths lengthsOf
+  counted-sane r z e k =
+      let x = lens h in
+      let same : (n : ℕ) → eqb n n ≡ true = λ n. eq-eqb n n refl in
+      rw (
+        e,
+        same (length (r .out)),
+        same (length (r .index)),
+        same (length (r .filters)),
+        same (length (r .restarts)),
+        same (length (r .indexRestarts)),
+        same (length (r .offsets)),
+        same (length (r .hashes)),
+        h .options,
+        f,
+        le-leb (s .written + s .pending .bytes) (length (r .out)) (omega (arith, x .out, u .out, z .out)),
+        le-leb (s .indexed .bytes) (length (r .index)) (omega (arith, x .index, u .index, z .index)),
+        le-leb (s .filtered) (length (r .filters)) (omega (arith, x .filters, u .filters, z .filters)),
+        le-leb (s .pending .restarts) (length (r .restarts)) (omega (arith, x .restarts, u .restarts, z .restarts)),
+        le-leb (s .indexed .restarts) (length (r .indexRestarts)) (omega (arith, x .indexRestarts, u .indexRestarts, z .indexRestarts)),
+        le-leb (s .made) (length (r .offsets)) (omega (arith, x .offsets, u .offsets, z .offsets)),
+        le-leb (s .waiting) (length (r .hashes)) (omega (arith, x .hashes, u .hashes, z .hashes)),
+        le-leb (s .pending .len) 1032 (k .0),
+        le-leb (s .indexed .len) 1032 (k .1),
+      )
+
+-- ---- additions that were accepted, and one more
+
+pub took : (o : Options) (room : ℕ) (b : Building) (a : Addition) (c : Building) → accept o room b a ≡ pass c → add o b a ≡ c
+unfolding accept
+took o room b a c e = asking 3 _ _ e λ f e. asking 4 _ _ e λ u e. asking 5 _ _ e λ t e. pass-same e
+
+pub accept-more : (o : Options) (room : ℕ) (b : Building) (more : List Addition) (a : Addition) (c d : Building) → acceptAll o room b more ≡ pass c → accept o room c a ≡ pass d
+    → acceptAll o room b (more ++ (a ∷ [])) ≡ pass d
+unfolding acceptAll _>>=_
+accept-more o room b [] a c d e f = let q : b ≡ c = pass-same e in rw (q, f)
+accept-more o room b (x ∷ more) a c d e f = passing (accept o room b x) _ e λ k t e. rw t (accept-more o room k more a c d e f)
+
+pub addition-short : (a : Addition) → additionFits a ≡ true → (length (keyOf a) ≤ 1032) × (length (a .value) ≤ 32768)
+unfolding additionFits keyOf
+addition-short a f =
+    let x = both (within 1 1024 (length (a .word))) _ f in
+    let w = within-parts 1 1024 (length (a .word)) (x .0) in
+    let v = both (leb (length (a .value)) 32768) _ (x .1) in
+    (omega (arith, internal-length (a .word) (a .edition) (a .kind)), leb-true _ _ (v .0))
+
+-- ---- the state before and after a cut, and with the entry
+
+module _ {o : Options} {b : Building} {s : Builder} (h : Counted o b s) where
+  pub last-is : lastOf s ≡ lastKey (b .openBlock)
+  unfolding lastOf lastKey countIn countOf
+  last-is = ap (λ (c : BlockCount). c .last) (counting h .counts)
+
+  open-size : openSize s ≡ length (chunkBytes o (b .openBlock))
+  unfolding openSize
+  open-size = ap countSize (counting h .counts) ∙ sym (chunk-size o (b .openBlock))
+
+  pub cut-is : cutOf s ≡ ltb (o .blockSize) (length (chunkBytes o (b .openBlock)))
+  unfolding cutOf optionsOf
+  cut-is = ap₂ ltb (ap (λ (x : Options). x .blockSize) (h .options)) open-size
+
+  pub above-is : (a : Addition) → aboveLast s (keyOf a) ≡ above a (b .openBlock)
+  unfolding above countIn countOf
+  above-is a = go (b .openBlock) refl
+    where
+      go : (xs : List Addition) → b .openBlock ≡ xs → aboveLast s (keyOf a) ≡ above a xs
+      go [] e = sym (above-none s (keyOf a) (ap (λ (c : BlockCount). c .restarts) (counting h .counts) ∙ count-zero (o .interval) (map pairOf (b .openBlock)) .1 (rw e)))
+      go (x ∷ xs) e =
+          sym (above-some s (keyOf a) (λ z.
+          let q = count-zero (o .interval) (map pairOf (b .openBlock)) .0 (sym (ap (λ (c : BlockCount). c .restarts) (counting h .counts)) ∙ z) in
+          let y : _≡_ {A = ℕ} 0 1 = cc in
+          omega arith))
+          ∙ ap (λ (k : List ℕ). below k (keyOf a)) (last-is ∙ ap lastKey e)
+
+  module _ (m : Small s) (n : s .pending .len ≤ 1032) (a : Addition) where
+    abbrev key : List ℕ
+    key = keyOf a
+
+    sep-is : sepOf s key ≡ separator (lastKey (b .openBlock)) key
+    unfolding sepOf
+    sep-is = ap (λ (k : List ℕ). separator k key) last-is
+
+    pub sep-short : length (sepOf s key) ≤ 1032
+    unfolding sepOf
+    sep-short = omega (arith, sep-most (lastOf s) key, last-short s n)
+
+    pub cut-close : cutOf s ≡ true → closeBefore o key b ≡ close (sepOf s key) b
+    unfolding closeBefore
+    cut-close t = rw (sym cut-is ∙ t, closeBefore, sep-is)
+
+    pub no-cut-close : cutOf s ≡ false → closeBefore o key b ≡ b
+    unfolding closeBefore
+    no-cut-close t = rw (sym cut-is ∙ t, closeBefore)
+
+    pub mid-counted : Counted o (closeBefore o key b) (midOf s key)
+    mid-counted =
+        test (cutOf s)
+        (λ t. rw (cut-close t, ← mid-cut s key refl t) (closed-counted h m (sepOf s key) sep-short))
+        (λ t. rw (no-cut-close t, ← mid-not s key refl t) h)
+
+    module _ (f : additionFits a ≡ true) where
+      pub roomy : Roomy (midOf s key) (length key) (length (a .value))
+      roomy = mid-roomy s key (length (a .value)) m n (addition-short a f .0) (addition-short a f .1) refl
+
+      pub next-counted : Counted o (add o b a) (nextOf s key (length (a .value)))
+      unfolding add nextOf
+      next-counted = entered-counted mid-counted a roomy
+
+-- ---- a state and runs that stand for a table
+
+-- 0, or the refusal's number
+unfoldable pub refusalOf : Checked Building → ℕ
+refusalOf (pass b) = 0
+refusalOf (refuse n) = n
+
+pub lengths-of : (d r r′ : Runs) → r′ ≡ overlaid d r → (room : ℕ) → Rooms room r → FitsRoom room d → lengthsOf r′ ≡ lengthsOf r
+unfolding overlaid lengthsOf
+lengths-of d r r′ p room z f =
+    let x₀ = overlay-long (d .out) (r′ .out) (r .out) (ap (λ (x : Runs). x .out) p) (omega (arith, f .out, z .out)) in
+    let x₁ = overlay-long (d .index) (r′ .index) (r .index) (ap (λ (x : Runs). x .index) p) (omega (arith, f .index, z .index)) in
+    let x₂ = overlay-long (d .filters) (r′ .filters) (r .filters) (ap (λ (x : Runs). x .filters) p) (omega (arith, f .filters, z .filters)) in
+    let x₃ = overlay-long (d .restarts) (r′ .restarts) (r .restarts) (ap (λ (x : Runs). x .restarts) p) (omega (arith, f .restarts, z .restarts)) in
+    let x₄ = overlay-long (d .indexRestarts) (r′ .indexRestarts) (r .indexRestarts) (ap (λ (x : Runs). x .indexRestarts) p) (omega (arith, f .indexRestarts, z .indexRestarts)) in
+    let x₅ = overlay-long (d .offsets) (r′ .offsets) (r .offsets) (ap (λ (x : Runs). x .offsets) p) (omega (arith, f .offsets, z .offsets)) in
+    let x₆ = overlay-long (d .hashes) (r′ .hashes) (r .hashes) (ap (λ (x : Runs). x .hashes) p) (omega (arith, f .hashes, z .hashes)) in
+    λ i. record { out = x₀ i; index = x₁ i; filters = x₂ i; restarts = x₃ i; «index_restarts» = x₄ i; offsets = x₅ i; hashes = x₆ i }
+
+-- start looks at the lengths alone
+pub start-lengths : (o : Options) (r r′ : Runs) → lengthsOf r′ ≡ lengthsOf r → startOf o r′ ≡ startOf o r
+unfolding startOf lengthsOf
+start-lengths o r r′ e =
+    rw (
+      ap (λ (l : Lengths). l .out) e,
+      ap (λ (l : Lengths). l .index) e,
+      ap (λ (l : Lengths). l .filters) e,
+      ap (λ (l : Lengths). l .restarts) e,
+      ap (λ (l : Lengths). l .«index_restarts») e,
+      ap (λ (l : Lengths). l .offsets) e,
+      ap (λ (l : Lengths). l .hashes) e,
+    )
+
+over-itself : (w e r : List ℕ) → e ≡ overlay w r → e ≡ overlay w e
+over-itself w e r p = overlay-of w e e (overlay-front w e r p) refl
+
+pub overlaid-itself : (d r r′ : Runs) → r′ ≡ overlaid d r → r′ ≡ overlaid d r′
+unfolding overlaid
+overlaid-itself d r r′ p =
+    let x₀ = over-itself (d .out) (r′ .out) (r .out) (ap (λ (x : Runs). x .out) p) in
+    let x₁ = over-itself (d .index) (r′ .index) (r .index) (ap (λ (x : Runs). x .index) p) in
+    let x₂ = over-itself (d .filters) (r′ .filters) (r .filters) (ap (λ (x : Runs). x .filters) p) in
+    let x₃ = over-itself (d .restarts) (r′ .restarts) (r .restarts) (ap (λ (x : Runs). x .restarts) p) in
+    let x₄ = over-itself (d .indexRestarts) (r′ .indexRestarts) (r .indexRestarts) (ap (λ (x : Runs). x .indexRestarts) p) in
+    let x₅ = over-itself (d .offsets) (r′ .offsets) (r .offsets) (ap (λ (x : Runs). x .offsets) p) in
+    let x₆ = over-itself (d .hashes) (r′ .hashes) (r .hashes) (ap (λ (x : Runs). x .hashes) p) in
+    λ i. record { out = x₀ i; index = x₁ i; filters = x₂ i; restarts = x₃ i; indexRestarts = x₄ i; offsets = x₅ i; hashes = x₆ i }
+
+pub stands-counted : {o : Options} {b : Building} {s : Builder} {r : Runs} → Stands o b s r → Counted o b s
+stands-counted t = record { options = t .options; counts = t .counts; interval = t .interval; indexInterval = t .indexInterval; whole = record { pending = t .whole .0; indexed = t .whole .1 } }
+
+module _ (o : Options) (more : List Addition) (b : Building) (s : Builder) (r : Runs) (e : acceptAll o (roomOf (length (r .out))) begin more ≡ pass b) (t : Stands o b s r) where
+  abbrev room : ℕ
+  room = roomOf (length (r .out))
+
+  pub trace-began : Began o r
+  trace-began = began o r (t .started)
+
+  pub trace-fits : FitsRoom room (between o b) × FitsRoom room (finished o b)
+  trace-fits = runs-suffice o room more b (true-is (trace-began .fits)) (trace-began .least) e
+
+  pub trace-small : small s ≡ true
+  trace-small = counted-small (stands-counted t) (trace-began .fits) room (trace-fits .0) (trace-began .rooms .limit)
+
+  pub trace-sane : sane s (lengthsOf r) ≡ true
+  trace-sane = counted-sane (stands-counted t) (trace-began .fits) room (trace-fits .0) (trace-began .rooms .limit) r (trace-began .rooms) (t .lengths) (t .short)
+
+  pub trace-is-small : Small s
+  trace-is-small = small-is s (rw (t .options) (trace-began .fits)) trace-small
+
+  module _ (a : Addition) (f : additionFits a ≡ true) where
+    abbrev its : List ℕ
+    its = keyOf a
+
+    abbrev next : Builder
+    next = nextOf s its (length (a .value))
+
+    pub trace-next : Counted o (add o b a) next
+    trace-next = next-counted (stands-counted t) trace-is-small (t .short .0) a f
+
+    pub trace-whole : Whole next
+    trace-whole = trace-next .whole
+
+    pub next-short : (next .pending .len ≤ 1032) × (next .indexed .len ≤ 1032)
+    next-short = (unfold nextOf enteredState builderAfter builderWith in addition-short a f .0, test (cutOf s) cut no-cut)
+      where
+        cut : cutOf s ≡ true → next .indexed .len ≤ 1032
+        cut q = unfold nextOf enteredState in rw (← mid-cut s its refl q) (unfold closedState builderAfter builderWith sepOf in omega (arith, sep-most (lastOf s) its, last-short s (t .short .0)))
+
+        no-cut : cutOf s ≡ false → next .indexed .len ≤ 1032
+        no-cut q = unfold nextOf enteredState in rw (← mid-not s its refl q) (t .short .1)
+
+    pub mid-same : (midOf s its .lengths ≡ s .lengths) × (midOf s its .finished ≡ s .finished)
+    mid-same =
+        test (cutOf s)
+        (λ q. rw (← mid-cut s its refl q) (unfold closedState in (refl, refl)))
+        (λ q. rw (← mid-not s its refl q) (refl, refl))
+
+    pub next-lengths : next .lengths ≡ lengthsOf r
+    unfolding nextOf enteredState
+    next-lengths = mid-same .0 ∙ t .lengths
+
+    next-size : finishedSize (optionsOf (next .options)) (countsIn next) ≡ length (finish o (add o b a))
+    next-size = ap₂ finishedSize (trace-next .options) (trace-next .counts) ∙ sym (size-finished o (add o b a))
+
+    module _ (up : above a (b .openBlock) ≡ true) where
+      accept-is : accept o room b a ≡ ask 5 (leb (length (finish o (add o b a))) room) >>= (λ u. pass (add o b a))
+      unfolding accept ask _>>=_
+      accept-is = rw (f, up)
+
+      small-fits : leb (length (finish o (add o b a))) room ≡ true → FitsRoom room (between o (add o b a))
+      small-fits q = runs-suffice o room (more ++ (a ∷ [])) (add o b a) (true-is (trace-began .fits)) (trace-began .least) (accept-more o room begin more a b (add o b a) e taken) .0
+        where
+          taken : accept o room b a ≡ pass (add o b a)
+          taken = accept-is ∙ (unfold ask _>>=_ in rw q)
+
+      fits-is : fitsOf next (lengthsOf r) ≡ leb (length (finish o (add o b a))) room
+      unfolding fitsOf
+      fits-is =
+          test (leb (length (finish o (add o b a))) room)
+          (λ q.
+          let u = small-fits q in
+          let x = counted-sane trace-next (trace-began .fits) room u (trace-began .rooms .limit) r (trace-began .rooms) next-lengths next-short in
+          let y = counted-small trace-next (trace-began .fits) room u (trace-began .rooms .limit) in
+          let z : leb (finishedSize (optionsOf (next .options)) (countsIn next)) (roomOf (lengthsOf r .out)) ≡ leb (length (finish o (add o b a))) room = unfold lengthsOf in ap (λ (n : ℕ). leb n room) next-size in
+          rw (x, y, z))
+          (λ q.
+          let z : leb (finishedSize (optionsOf (next .options)) (countsIn next)) (roomOf (lengthsOf r .out)) ≡ false = unfold lengthsOf in ap (λ (n : ℕ). leb n room) next-size ∙ q in
+          rw (z, q) (never (sane next (lengthsOf r)) (small next)))
+        where
+          never : (x y : Bool) → x && (y && false) ≡ false
+          never true true = refl
+          never true false = refl
+          never false y = refl
+
+    pub trace-decides : decideOf s (lengthsOf r) its (length (a .value)) ≡ refusalOf (accept o room b a)
+    unfolding decideOf
+    trace-decides =
+        test (above a (b .openBlock))
+        (λ up. rw (trace-small, above-is (stands-counted t) a, up, fits-is up, accept-is up) (test (leb (length (finish o (add o b a))) room) (λ q. rw q (unfold ask _>>=_ refusalOf in refl)) (λ q. rw q (unfold ask _>>=_ refusalOf in refl))))
+        (λ up. rw (trace-small, above-is (stands-counted t) a, up) (unfold accept ask _>>=_ refusalOf in rw (f, up)))

@@ -1,0 +1,82 @@
+-- What the builder's private functions write into the runs.
+use Prim.Native.Nat.{ℕ, zero, suc, _+_, _/_}
+use mathlib.Core.Path.{_≡_}
+use mathlib.Core.Logic.{_⊎_}
+use mathlib.Core.List.{List, [], _∷_}
+use mathlib.Core.Bool.{true, false}
+use lib.ListN.{length, take}
+use Rattle.codec.specs.Bytes.{part}
+use Rattle.codec.specs.Checksum.{trailer}
+use Rattle.codec.specs.Put.{put}
+use Rattle.codec.specs.Varint.{handleBytes}
+use Rattle.block.specs.declared.block_builder.BlockBuilder.{BlockBuilder}
+use Rattle.block.specs.declared.block_builder.Added.{Added}
+use Rattle.block.specs.Block.{tailBytes}
+use Rattle.block.specs.Count.{countSize}
+use Rattle.block.specs.Builder.{countIn, AddedIs}
+use Rattle.filter.specs.declared.filter_block.Made.{Made}
+use Rattle.filter.specs.Choice.{choiceOf}
+use Rattle.filter.specs.Filter.{hash}
+use Rattle.filter.specs.Make.{groupsUpTo, MadeFilters}
+use Rattle.table.specs.Runs.{Runs}
+use Rattle.builder.specs.declared.table_builder.Answer.{Answer}
+use Rattle.builder.specs.declared.table_builder.Answer.the-variants as AnswerCase
+use Rattle.builder.specs.declared.table_builder.Lengths.{Lengths}
+use Rattle.builder.specs.declared.table_builder.Builder.{Builder}
+use Rattle.builder.specs.declared.table_builder.Added as AddedStruct
+use Rattle.builder.specs.Steps.{openSize, endsAt, cutOf, sepOf, midOf, nextOf, decideOf, Whole}
+
+-- the restarts behind the entries of a block at a place of out
+unfoldable pub tailedOut : List ℕ → ℕ → BlockBuilder → List ℕ → List ℕ
+tailedOut out at b rs = put out (at + b .bytes) (tailBytes (take (b .restarts) rs))
+
+-- and then the trailer
+unfoldable pub sealedOut : List ℕ → ℕ → BlockBuilder → List ℕ → List ℕ
+sealedOut out at b rs =
+    put (tailedOut out at b rs) (at + countSize (countIn b)) (trailer (part (tailedOut out at b rs) at (countSize (countIn b))))
+
+-- the open block written, indexed under a key, and filters made up to where it ends
+pub record ClosedRuns (s : Builder) (key : List ℕ) (r r′ : Runs) : Type 0 where
+  pub out : r′ .out ≡ sealedOut (r .out) (s .written) (s .pending) (r .restarts)
+  pub added : Added
+  pub index : AddedIs (s .indexed) 0 (r .index) (r′ .index) (r .indexRestarts) (r′ .indexRestarts) key (handleBytes (record { offset = s .written; size = openSize s })) added
+  pub made : Made
+  pub filters : MadeFilters (choiceOf (s .options .filter)) (groupsUpTo (s .made) (endsAt s / 2048) (take (s .waiting) (r .hashes))) (s .filtered) (s .made) made (r .filters) (r′ .filters) (r .offsets) (r′ .offsets)
+  pub restarts : r′ .restarts ≡ r .restarts
+  pub hashes : r′ .hashes ≡ r .hashes
+
+-- the same before a key, if the open block is over the block size
+pub record CutRuns (s : Builder) (key : List ℕ) (r r′ : Runs) : Type 0 where
+  pub cut : cutOf s ≡ true → ClosedRuns s (sepOf s key) r r′
+  pub kept : cutOf s ≡ false → r′ ≡ r
+
+-- an entry written into the open block, and its word's hash behind those that wait
+pub record EnteredRuns (s : Builder) (key word value out out′ restarts restarts′ hashes hashes′ : List ℕ) : Type 0 where
+  pub added : Added
+  pub entry : AddedIs (s .pending) (s .written) out out′ restarts restarts′ key value added
+  pub hash : hashes′ ≡ put hashes (s .waiting) (hash word ∷ [])
+
+-- an addition written into the runs, by way of a cut
+pub record PutRuns (s : Builder) (key word value : List ℕ) (r r′ : Runs) : Type 0 where
+  pub mid : Runs
+  pub cut : CutRuns s key r mid
+  pub entered : EnteredRuns (midOf s key) key word value (mid .out) (r′ .out) (mid .restarts) (r′ .restarts) (mid .hashes) (r′ .hashes)
+  pub index : r′ .index ≡ mid .index
+  pub filters : r′ .filters ≡ mid .filters
+  pub indexRestarts : r′ .indexRestarts ≡ mid .indexRestarts
+  pub offsets : r′ .offsets ≡ mid .offsets
+
+-- the answer of a number: 0, or a refusal's
+unfoldable pub numbered : ℕ → Answer
+numbered zero = AnswerCase.Ok
+numbered (suc n) = AnswerCase.Refused (suc n)
+
+-- an addition within the limits, to a sane state, answers x and leaves the runs so
+pub record PutIs (s : Builder) (l : Lengths) (key word value : List ℕ) (r r′ : Runs) (x : AddedStruct.Added) : Type 0 where
+  pub number : ℕ
+  pub kind : (number ≡ 0) ⊎ ((number ≡ 4) ⊎ (number ≡ 5))
+  pub answer : x .answer ≡ numbered number
+  pub decided : Whole (nextOf s key (length value)) → number ≡ decideOf s l key (length value)
+  pub kept : (number ≡ 0 → ⊥) → (x .state ≡ s) × (r′ ≡ r)
+  pub state : number ≡ 0 → x .state ≡ nextOf s key (length value)
+  pub wrote : number ≡ 0 → PutRuns s key word value r r′
