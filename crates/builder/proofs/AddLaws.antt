@@ -154,7 +154,7 @@ module _ (o : Options) (more : List Addition) (b : Building) (s : Builder) (r : 
 
 -- ---- all of it
 
-early-zero : (s : Builder) (l : Lengths) (t : Bool) → earlyOf s l t ≡ 0 → (sane s l ≡ true) × (t ≡ true)
+pub early-zero : (s : Builder) (l : Lengths) (t : Bool) → earlyOf s l t ≡ 0 → (sane s l ≡ true) × (t ≡ true)
 unfolding earlyOf
 early-zero s l t e = go (s .finished) (sane s l) t e
   where
@@ -164,7 +164,7 @@ early-zero s l t e = go (s .finished) (sane s l) t e
     go false true false e = absurd (omega arith)
     go false false z e = absurd (omega arith)
 
-early-traced : (s : Builder) (l : Lengths) (t : Bool) → s .finished ≡ false → sane s l ≡ true → earlyOf s l t ≡ cond t 0 3
+pub early-traced : (s : Builder) (l : Lengths) (t : Bool) → s .finished ≡ false → sane s l ≡ true → earlyOf s l t ≡ cond t 0 3
 unfolding earlyOf
 early-traced s l t e f = rw (f, e)
 

@@ -95,7 +95,7 @@ module _ {o : Options} {b : Building} {s : Builder} (h : Counted o b s) where
   unfolding countsIn countsOf
   written-is = ap (λ (c : Counts). c .written) (h .counts)
 
-  filters-is : record { bytes = s .filtered; made = s .made; waiting = s .waiting } ≡ filterCountOf (o .filtering) fs
+  pub filters-is : record { bytes = s .filtered; made = s .made; waiting = s .waiting } ≡ filterCountOf (o .filtering) fs
   unfolding countsIn countsOf
   filters-is = ap (λ (c : Counts). c .filters) (h .counts)
 
@@ -203,7 +203,7 @@ pub options-filter : (s : Builder) (o : Options) → optionsOf (s .options) ≡ 
 unfolding optionsOf
 options-filter s o e = ap (λ (x : Options). x .filtering) e
 
-part-put : (d : List ℕ) (at : ℕ) (bs : List ℕ) → at + length bs ≤ length d → part (put d at bs) at (length bs) ≡ bs
+pub part-put : (d : List ℕ) (at : ℕ) (bs : List ℕ) → at + length bs ≤ length d → part (put d at bs) at (length bs) ≡ bs
 part-put d at bs h =
     let e = put-behind d at 0 bs (omega arith) in
     unfold part in rw (add-zero at, zero-add (length bs)) at e
@@ -326,7 +326,7 @@ module _ {o : Options} {b : Building} {s : Builder} (h : Counted o b s) (m : Sma
   unfolding filtersUpTo
   made-close = ap (λ (f : Filters). f .made) filters-close ∙ filters-until (endsAt s / 2048) (filtersNow o b)
 
-  waits-close : (P : List ℕ → Type 0) → P (filtersNow o b .waiting) → P [] → P (filtersNow o d .waiting)
+  pub waits-close : (P : List ℕ → Type 0) → P (filtersNow o b .waiting) → P [] → P (filtersNow o d .waiting)
   unfolding filtersUpTo
   waits-close P p q = rw filters-close (waits-until P (endsAt s / 2048) (filtersNow o b) p q)
 

@@ -8,3 +8,6 @@ pub mod CloseLaws
 pub mod EnterLaws
 pub mod TraceLaws
 pub mod AddLaws
+pub mod FinishLaws
+pub mod EndLaws
+pub mod LastLaws

@@ -98,7 +98,7 @@ groups-none : (m n : ℕ) (hs : List ℕ) → n ≤ m → groupsUpTo m n hs ≡ 
 unfolding groupsUpTo
 groups-none m n hs h = rw (le-leb n m h, groupsUpTo)
 
-groups-some : (m n : ℕ) (hs : List ℕ) → m < n → groupsUpTo m n hs ≡ hs ∷ replicate (n - m - 1) []
+pub groups-some : (m n : ℕ) (hs : List ℕ) → m < n → groupsUpTo m n hs ≡ hs ∷ replicate (n - m - 1) []
 unfolding groupsUpTo
 groups-some m n hs h = rw (lt-leb n m h, groupsUpTo)
 

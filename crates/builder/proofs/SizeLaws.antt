@@ -53,7 +53,7 @@ module _ (i : ℕ) (b : BlockCount) (key : List ℕ) (v : ℕ) where
       let s = sharing i (b .since) (b .last) key in
       omega (arith, varint-bytes-length s, varint-bytes-length (length key - s), varint-bytes-length v)
 
-  entry-restarts : countEntry i b key v .restarts ≤ b .restarts + 1
+  pub entry-restarts : countEntry i b key v .restarts ≤ b .restarts + 1
   unfolding countEntry
   entry-restarts = test (eqb (b .since) i) (λ t. rw (t, countEntry) (omega arith)) (λ t. rw (t, countEntry) (omega arith))
 

@@ -10,7 +10,7 @@ use Rattle.keys.specs.Order.{below, separator}
 use Rattle.block.specs.Count.{entrySize, countSize}
 use Rattle.block.specs.Builder.{countIn, newBuilder, builderAfter}
 use Rattle.filter.specs.FilterBlock.{Filtering}
-use Rattle.filter.specs.FilterCount.{FilterCount, countUpTo}
+use Rattle.filter.specs.FilterCount.{FilterCount, countUpTo, countLast}
 use Rattle.filter.specs.Choice.{choiceOf}
 use Rattle.table.specs.Options.{filteringFits}
 use Rattle.table.specs.Build.{metaName}
@@ -19,6 +19,7 @@ use Rattle.table.specs.Counts.{handleSize, finishedSize}
 use Rattle.builder.specs.declared.table_builder.Lengths.{Lengths}
 use Rattle.builder.specs.declared.table_builder.Builder.{Builder}
 use Rattle.builder.specs.declared.table_builder.Plan.{Plan}
+use Rattle.builder.specs.declared.table_builder.Ending.{Ending}
 use Rattle.builder.specs.declared.table_builder.FilterSizes.{FilterSizes}
 use Rattle.builder.specs.State.{optionsOf, countsIn, sane}
 
@@ -178,3 +179,25 @@ pub record DecidedIs (s : Builder) (l : Lengths) (key : List ℕ) (value : ℕ) 
   pub mid : p .answer ≡ 0 → p .mid ≡ midOf s key
   pub next : p .answer ≡ 0 → p .next ≡ nextOf s key value
   pub small : p .answer ≡ 0 → Small s
+
+-- ---- the end
+
+-- the filters at the end
+unfoldable pub lastFilters : Builder → FilterCount
+lastFilters s = countLast (choiceOf (s .options .filter)) (filtersIn (lastState s))
+
+-- the finished table fits its output, and all that it is written from its runs
+unfoldable pub endable : Builder → Lengths → Bool
+endable s l =
+    leb (finishedSize (optionsOf (s .options)) (countsIn s)) (l .out)
+    && (leb (lastFilters s .bytes) (l .filters) && (leb (lastFilters s .made) (l .offsets) && leb (lastState s .indexed .bytes) (l .index)))
+
+-- deciding of a finish answers p
+pub record EndingIs (s : Builder) (l : Lengths) (p : Ending) : Type 0 where
+  pub kind : (p .answer ≡ 0) ⊎ (p .answer ≡ 5)
+  pub answer : Whole s → p .answer ≡ cond (small s && endable s l) 0 5
+  pub size : p .answer ≡ 0 → Whole s → p .size ≡ finishedSize (optionsOf (s .options)) (countsIn s)
+  pub small : p .answer ≡ 0 → Small s
+  pub last : p .answer ≡ 0 → p .last ≡ lastState s
+  pub sizes : p .answer ≡ 0 → filterCountIn (p .sizes) ≡ lastFilters s
+  pub within : p .answer ≡ 0 → (p .sizes .bytes ≤ l .filters) × ((p .sizes .made ≤ l .offsets) × (p .last .indexed .bytes ≤ l .index))

@@ -1,8 +1,8 @@
 -- What the builder's private functions write into the runs.
-use Prim.Native.Nat.{ℕ, zero, suc, _+_, _/_}
+use Prim.Native.Nat.{ℕ, zero, suc, _+_, _/_, _≤_}
 use mathlib.Core.Path.{_≡_}
 use mathlib.Core.Logic.{_⊎_}
-use mathlib.Core.List.{List, [], _∷_}
+use mathlib.Core.List.{List, [], _∷_, _++_}
 use mathlib.Core.Bool.{true, false}
 use lib.ListN.{length, take}
 use Rattle.codec.specs.Bytes.{part}
@@ -11,20 +11,24 @@ use Rattle.codec.specs.Put.{put}
 use Rattle.codec.specs.Varint.{handleBytes}
 use Rattle.block.specs.declared.block_builder.BlockBuilder.{BlockBuilder}
 use Rattle.block.specs.declared.block_builder.Added.{Added}
-use Rattle.block.specs.Block.{tailBytes}
+use Rattle.block.specs.Block.{Pair, tailBytes, blockBytes}
+use Rattle.block.specs.Builder as Blocks
 use Rattle.block.specs.Count.{countSize}
 use Rattle.block.specs.Builder.{countIn, AddedIs}
 use Rattle.filter.specs.declared.filter_block.Made.{Made}
 use Rattle.filter.specs.Choice.{choiceOf}
 use Rattle.filter.specs.Filter.{hash}
+use Rattle.filter.specs.FilterBlock.{filterBlockOf}
 use Rattle.filter.specs.Make.{groupsUpTo, MadeFilters}
-use Rattle.table.specs.Runs.{Runs}
+use Rattle.table.specs.Build.{framed, metaName, footerBytes}
+use Rattle.table.specs.Runs.{Runs, overlay}
 use Rattle.builder.specs.declared.table_builder.Answer.{Answer}
 use Rattle.builder.specs.declared.table_builder.Answer.the-variants as AnswerCase
 use Rattle.builder.specs.declared.table_builder.Lengths.{Lengths}
 use Rattle.builder.specs.declared.table_builder.Builder.{Builder}
 use Rattle.builder.specs.declared.table_builder.Added as AddedStruct
-use Rattle.builder.specs.Steps.{openSize, endsAt, cutOf, sepOf, midOf, nextOf, decideOf, Whole}
+use Rattle.builder.specs.declared.table_builder.FilterSizes.{FilterSizes}
+use Rattle.builder.specs.Steps.{lastOf, openSize, endsAt, cutOf, sepOf, midOf, nextOf, decideOf, Whole}
 
 -- the restarts behind the entries of a block at a place of out
 unfoldable pub tailedOut : List ℕ → ℕ → BlockBuilder → List ℕ → List ℕ
@@ -80,3 +84,66 @@ pub record PutIs (s : Builder) (l : Lengths) (key word value : List ℕ) (r r′
   pub kept : (number ≡ 0 → ⊥) → (x .state ≡ s) × (r′ ≡ r)
   pub state : number ≡ 0 → x .state ≡ nextOf s key (length value)
   pub wrote : number ≡ 0 → PutRuns s key word value r r′
+
+-- ---- the end
+
+-- a pending block written, and indexed under its last key
+pub record LastRuns (s : Builder) (r r′ : Runs) : Type 0 where
+  pub some : (s .pending .restarts ≡ 0 → ⊥) → ClosedRuns s (lastOf s) r r′
+  pub none : s .pending .restarts ≡ 0 → r′ ≡ r
+
+-- one filter more if hashes still wait
+pub record LastFilters (s : Builder) (f f′ q q′ hashes : List ℕ) : Type 0 where
+  pub made : Made
+  pub some : (s .waiting ≡ 0 → ⊥) → MadeFilters (choiceOf (s .options .filter)) (groupsUpTo (s .made) (s .made + 1) (take (s .waiting) hashes)) (s .filtered) (s .made) made f f′ q q′
+  pub none : s .waiting ≡ 0 → (f′ ≡ f) × (q′ ≡ q)
+
+-- contents and their trailer written at a place, where there is room
+pub record Framed (out : List ℕ) (at : ℕ) (bs out′ : List ℕ) : Type 0 where
+  pub framed : at + length bs + 5 ≤ length out → out′ ≡ put out at (framed bs)
+
+-- the index block and its trailer written at a place, where there is room, from runs in which it stands
+pub record IndexPut (b : BlockBuilder) (index restarts : List ℕ) (at : ℕ) (out out′ : List ℕ) : Type 0 where
+  pub wrote : (i : ℕ) (ps : List Pair) → Blocks.Stands i ps b 0 index restarts → Framed out at (blockBytes i ps) out′
+
+-- the end of a table has numbers of 64 bits, and what it is written from stands within the runs
+pub record EndFits (s : Builder) (f : FilterSizes) (filters offsets index : ℕ) : Type 0 where
+  pub written : s .written ≤ 1073741824
+  pub filterBytes : f .bytes ≤ 1207959561
+  pub made : f .made ≤ 2147483649
+  pub indexSize : countSize (countIn (s .indexed)) ≤ 5368709124
+  pub inFilters : f .bytes ≤ filters
+  pub inOffsets : f .made ≤ offsets
+  pub inIndex : s .indexed .bytes ≤ index
+
+-- the filter block at the end
+unfoldable pub filterBlock : FilterSizes → List ℕ → List ℕ → List ℕ
+filterBlock f filters offsets = filterBlockOf (take (f .bytes) filters) (take (f .made) offsets)
+
+-- the metaindex block at the end
+unfoldable pub metaBlock : Builder → ℕ → List ℕ
+metaBlock s size =
+    blockBytes (s .options .interval) (record { key = metaName (choiceOf (s .options .filter)); value = handleBytes (record { offset = s .written; size = size }) } ∷ [])
+
+-- filter block, metaindex, index and footer behind the data blocks, where there is room
+pub record EndPut (s : Builder) (f : FilterSizes) (filters offsets index restarts out out′ : List ℕ) : Type 0 where
+  pub wrote : 1 ≤ s .options .interval → s .options .interval ≤ 1024 → (i : ℕ) (ps : List Pair) → Blocks.Stands i ps (s .indexed) 0 index restarts
+      → (w r : List ℕ) → out ≡ overlay w r → length w ≡ s .written
+      → (let fb = filterBlock f filters offsets in
+      let mb = metaBlock s (length fb) in
+      let ib = blockBytes i ps in
+      let t = w ++ framed fb in
+      let u = t ++ framed mb in
+      let all = u ++ framed ib ++ footerBytes (record { offset = length t; size = length mb }) (record { offset = length u; size = length ib }) in
+      length all ≤ length r → out′ ≡ overlay all r)
+
+-- all that is left of a table, written
+pub record EndRuns (s last : Builder) (f : FilterSizes) (r r′ : Runs) : Type 0 where
+  pub mid : Runs
+  pub closed : LastRuns s r mid
+  pub filters : LastFilters last (mid .filters) (r′ .filters) (mid .offsets) (r′ .offsets) (mid .hashes)
+  pub out : EndPut last f (r′ .filters) (r′ .offsets) (mid .index) (mid .indexRestarts) (mid .out) (r′ .out)
+  pub index : r′ .index ≡ mid .index
+  pub indexRestarts : r′ .indexRestarts ≡ mid .indexRestarts
+  pub restarts : r′ .restarts ≡ r .restarts
+  pub hashes : r′ .hashes ≡ r .hashes

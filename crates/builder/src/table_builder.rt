@@ -1,29 +1,31 @@
 // A table being built: data blocks and index, filters and hashes lie in seven lent runs. The builder itself is a value: the
 // options, the runs' lengths and counts. Everything is decided from these before anything is written.
 ghost use mathlib.Core.Path.{_≡_};
-ghost use mathlib.Core.Bool.{_&&_};
+ghost use mathlib.Core.Bool.{true, _&&_};
 ghost use mathlib.Core.List.{[], _∷_};
 ghost use Prim.Native.Nat.{_+_, _^_, _≤_, _<_};
 ghost use lib.Dec.{eqb, leb};
 ghost use lib.ListN.{length, take};
 ghost use Rattle.codec.specs.Put.{put};
 ghost use Rattle.codec.specs.Varint.{handleBytes};
+ghost use Rattle.block.specs.Block.{blockBytes};
 ghost use Rattle.block.specs.Formed.{within};
 ghost use Rattle.block.specs.Count.{countSize};
 ghost use Rattle.block.specs.Builder as Blocks;
 ghost use Rattle.block.specs.Builder.{countIn};
 ghost use Rattle.filter.specs.Choice.{choiceOf};
+ghost use Rattle.filter.specs.FilterBlock.{filterBlockOf};
 ghost use Rattle.filter.specs.Make.{groupsUpTo, MadeFilters};
 ghost use Rattle.filter.specs.FilterCount.{filterBytesOf, countMade, countLast};
 ghost use Rattle.keys.specs.Order.{below, separator, internal};
 ghost use Rattle.table.specs.Options.{optionsFit, filteringFits, emptySize, additionFits};
-ghost use Rattle.table.specs.Build.{metaName};
+ghost use Rattle.table.specs.Build.{metaName, footerBytes};
 ghost use Rattle.table.specs.Runs.{roomOf};
 ghost use Rattle.table.specs.Counts.{finishedSize};
 ghost use Rattle.builder.specs.State.{optionsOf, countsIn, seven, runsFit, sameLengths, sizesFit, sane, begun, noBuilder};
-ghost use Rattle.builder.specs.Answers.{StartedIs, AddedIs};
-ghost use Rattle.builder.specs.Steps.{small, Small, filterCountIn, closedState, lastOf, Roomy, enteredState, lastState, metaLen, Whole, cutOf, midOf, aboveLast, fitsOf, earlyOf, Ready, DecidedIs};
-ghost use Rattle.builder.specs.Writes.{sealedOut, ClosedRuns, CutRuns, EnteredRuns, PutIs};
+ghost use Rattle.builder.specs.Answers.{StartedIs, AddedIs, FinishedIs};
+ghost use Rattle.builder.specs.Steps.{small, Small, filterCountIn, closedState, lastOf, Roomy, enteredState, lastState, metaLen, Whole, cutOf, midOf, aboveLast, fitsOf, earlyOf, Ready, DecidedIs, EndingIs};
+ghost use Rattle.builder.specs.Writes.{sealedOut, ClosedRuns, CutRuns, EnteredRuns, PutIs, LastRuns, LastFilters, Framed, IndexPut, EndFits, EndPut, EndRuns};
 use block::block_builder::BlockBuilder;
 use codec::put::Written;
 use codec::varint::varint_len;
@@ -78,6 +80,18 @@ pub struct Started {
 // Add's answer, and the state to go on with.
 pub struct Added {
     pub answer: Answer,
+    pub state: Builder,
+}
+
+// What finish answers: the table's size, or the refusal's number.
+pub enum Outcome {
+    Size(usize),
+    Refused(u32),
+}
+
+// Finish's answer, and the state after it.
+pub struct Finished {
+    pub answer: Outcome,
     pub state: Builder,
 }
 
@@ -794,6 +808,276 @@ fn put_addition(
     }
 }
 
+// The first len bytes of last go to the front of key; how many they are.
+fn put_last(key: &mut [u8], last: &[u8], len: usize) -> usize
+    requires { ⌜ (length (now key) ≡ 1032) × ((len ≤ length (now last)) × (len ≤ 1032)) ⌝ }
+    ensures { λ r. ⌜ (r ≤ 1032) × ((length (now (key .exit)) ≡ 1032) × (take r (now (key .exit)) ≡ take len (now (last .entry)))) ⌝ }
+{
+    match codec::put::put_bytes(key, 0, &last[..len]) {
+        Written::NoRoom => 0,
+        Written::At(n) => n,
+    }
+}
+
+// At the end: a pending block is written, and indexed under its last key.
+fn close_last(
+    s: Builder,
+    out: &mut [u8],
+    index: &mut [u8],
+    filters: &mut [u8],
+    restarts: &[u32],
+    index_restarts: &mut [u32],
+    offsets: &mut [u32],
+    hashes: &[u32],
+)
+    requires { ⌜ (Small s) × (s .pending .len ≤ 1032) ⌝ }
+    ensures { λ _. ⌜ LastRuns s (seven (now (out .entry)) (now (index .entry)) (now (filters .entry)) (now (restarts .entry)) (now («index_restarts» .entry)) (now (offsets .entry)) (now (hashes .entry))) (seven (now (out .exit)) (now (index .exit)) (now (filters .exit)) (now (restarts .entry)) (now («index_restarts» .exit)) (now (offsets .exit)) (now (hashes .entry))) ⌝ }
+{
+    let pending = s.pending;
+    if pending.restarts == 0 {
+        return;
+    }
+    let mut key = [0u8; 1032];
+    let n = put_last(&mut key, &pending.last, pending.len);
+    close(
+        s,
+        &key[..n],
+        out,
+        index,
+        filters,
+        restarts,
+        index_restarts,
+        offsets,
+        hashes,
+    );
+}
+
+// One filter more if hashes still wait.
+fn filter_last(s: Builder, filters: &mut [u8], offsets: &mut [u32], hashes: &[u32])
+    requires { ⌜ s .made < 2 ^ 63 ⌝ }
+    ensures { λ _. ⌜ LastFilters s (now (filters .entry)) (now (filters .exit)) (now (offsets .entry)) (now (offsets .exit)) (now (hashes .entry)) ⌝ }
+{
+    if s.waiting == 0 {
+        return;
+    }
+    let options = s.options;
+    let filter = options.filter;
+    filter_blocks(
+        filter,
+        hashes,
+        s.waiting,
+        s.made + 1,
+        filters,
+        s.filtered,
+        offsets,
+        s.made,
+    );
+}
+
+// Writes the filter block and its trailer at a place of out.
+fn put_filter(
+    out: &mut [u8],
+    at: usize,
+    filters: &[u8],
+    bytes: usize,
+    offsets: &[u32],
+    made: usize,
+    size: usize,
+)
+    requires { ⌜ (bytes ≤ length (now filters)) × (made ≤ length (now offsets)) ⌝ }
+    ensures { λ _. ⌜ (size ≡ length (filterBlockOf (take bytes (now (filters .entry))) (take made (now (offsets .entry)))) → Framed (now (out .entry)) at (filterBlockOf (take bytes (now (filters .entry))) (take made (now (offsets .entry)))) (now (out .exit))) ⌝ }
+{
+    filter::filter_block::finish(out, at, &filters[..bytes], &offsets[..made]);
+    codec::trailer::put_trailer(out, at, size);
+}
+
+// Writes a block of one entry and its trailer at a place of out.
+fn put_one(out: &mut [u8], at: usize, interval: usize, name: &[u8], value: &[u8], size: usize)
+    ensures { λ _. ⌜ (1 ≤ interval → interval ≤ 1024 → length (now (name .entry)) ≤ 1032 → length (now (value .entry)) ≤ 32768 → size ≡ length (blockBytes interval (record { key = now (name .entry); value = now (value .entry) } ∷ [])) → Framed (now (out .entry)) at (blockBytes interval (record { key = now (name .entry); value = now (value .entry) } ∷ [])) (now (out .exit))) ⌝ }
+{
+    let mut restarts = [0u32; 1];
+    let block = BlockBuilder::new(interval);
+    let added = block.add(out, at, &mut restarts, name, value);
+    let one = added.block;
+    one.finish(out, at, &restarts);
+    codec::trailer::put_trailer(out, at, size);
+}
+
+// Writes the metaindex and its trailer at a place of out.
+fn put_meta(
+    out: &mut [u8],
+    at: usize,
+    interval: usize,
+    filter: Filter,
+    offset: usize,
+    size: usize,
+    len: usize,
+)
+    ensures { λ _. ⌜ (1 ≤ interval → interval ≤ 1024 → len ≡ length (blockBytes interval (record { key = metaName (choiceOf filter); value = handleBytes (record { offset = offset; size = size }) } ∷ [])) → Framed (now (out .entry)) at (blockBytes interval (record { key = metaName (choiceOf filter); value = handleBytes (record { offset = offset; size = size }) } ∷ [])) (now (out .exit))) ⌝ }
+{
+    let mut handle = [0u8; 20];
+    match codec::blockhandle::encode_to(&mut handle, 0, offset, size) {
+        Written::NoRoom => {}
+        Written::At(n) => match filter {
+            Filter::None => put_one(out, at, interval, b"filter._", &handle[..n], len),
+            Filter::Bits(_) => put_one(
+                out,
+                at,
+                interval,
+                b"filter.leveldb.BuiltinBloomFilter2",
+                &handle[..n],
+                len,
+            ),
+        },
+    }
+}
+
+// Writes the index block and its trailer at a place of out.
+fn put_index(
+    out: &mut [u8],
+    at: usize,
+    indexed: BlockBuilder,
+    index: &[u8],
+    restarts: &[u32],
+    size: usize,
+)
+    requires { ⌜ (size ≡ countSize (countIn indexed)) × (indexed .bytes ≤ length (now index)) ⌝ }
+    ensures { λ _. ⌜ IndexPut indexed (now (index .entry)) (now (restarts .entry)) at (now (out .entry)) (now (out .exit)) ⌝ }
+{
+    let n = indexed.bytes;
+    codec::put::put_bytes(out, at, &index[..n]);
+    seal_block(out, at, indexed, restarts, size);
+}
+
+// The footer: both handles, zeros up to 40 bytes, and the magic.
+fn put_footer(
+    out: &mut [u8],
+    at: usize,
+    meta_offset: usize,
+    meta_size: usize,
+    index_offset: usize,
+    index_size: usize,
+)
+    ensures { λ _. ⌜ now (out .exit) ≡ put (now (out .entry)) at (footerBytes (record { offset = «meta_offset»; size = «meta_size» }) (record { offset = «index_offset»; size = «index_size» })) ⌝ }
+{
+    let mut foot = [0u8; 48];
+    match codec::blockhandle::encode_to(&mut foot, 0, meta_offset, meta_size) {
+        Written::NoRoom => {}
+        Written::At(n) => {
+            codec::blockhandle::encode_to(&mut foot, n, index_offset, index_size);
+            codec::put::put_bytes(&mut foot, 40, b"\x57\xfb\x80\x8b\x24\x75\x47\xdb");
+            codec::put::put_bytes(out, at, &foot);
+        }
+    }
+}
+
+// Writes filter block, metaindex, index and footer at a place of out, the end of the data blocks.
+fn write_end(
+    out: &mut [u8],
+    s: Builder,
+    f: FilterSizes,
+    filters: &[u8],
+    offsets: &[u32],
+    index: &[u8],
+    restarts: &[u32],
+)
+    requires { ⌜ EndFits s f (length (now filters)) (length (now offsets)) (length (now index)) ⌝ }
+    ensures { λ _. ⌜ EndPut s f (now (filters .entry)) (now (offsets .entry)) (now (index .entry)) (now (restarts .entry)) (now (out .entry)) (now (out .exit)) ⌝ }
+{
+    let options = s.options;
+    let filter = options.filter;
+    let at = s.written;
+    let block = f.bytes + 4 * f.made + 5;
+    put_filter(out, at, filters, f.bytes, offsets, f.made, block);
+    let meta_at = at + block + 5;
+    let meta = meta_size(filter, at, block);
+    put_meta(out, meta_at, options.interval, filter, at, block, meta);
+    let index_at = meta_at + meta + 5;
+    let indexed = s.indexed;
+    let size = indexed.size_estimate();
+    put_index(out, index_at, indexed, index, restarts, size);
+    put_footer(out, index_at + size + 5, meta_at, meta, index_at, size);
+}
+
+// What is decided of a finish: 0 or the refusal's number, the table's size, the state with the last block closed, and the
+// filters with the last one made.
+struct Ending {
+    answer: u32,
+    size: usize,
+    last: Builder,
+    sizes: FilterSizes,
+}
+
+// Everything is decided here, and nothing written.
+fn decide_end(s: Builder, l: Lengths) -> Ending
+    requires { ⌜ sane s l ≡ true ⌝ }
+    ensures { λ r. ⌜ EndingIs s l r ⌝ }
+{
+    let none = FilterSizes {
+        bytes: 0,
+        made: 0,
+        waiting: 0,
+    };
+    if !is_small(s) {
+        return Ending {
+            answer: 5,
+            size: 0,
+            last: s,
+            sizes: none,
+        };
+    }
+    let size = finished_size(s);
+    let last = closed_last(s);
+    let options = s.options;
+    let filter = options.filter;
+    let f = last_made(filter, last.filtered, last.made, last.waiting);
+    let runs = both(f.made <= l.offsets, last.indexed.bytes <= l.index);
+    if !both(size <= l.out, both(f.bytes <= l.filters, runs)) {
+        return Ending {
+            answer: 5,
+            size: 0,
+            last: s,
+            sizes: none,
+        };
+    }
+    Ending {
+        answer: 0,
+        size: size,
+        last: last,
+        sizes: f,
+    }
+}
+
+// Writes all that is left of a table.
+fn write_last(
+    s: Builder,
+    last: Builder,
+    f: FilterSizes,
+    out: &mut [u8],
+    index: &mut [u8],
+    filters: &mut [u8],
+    restarts: &[u32],
+    index_restarts: &mut [u32],
+    offsets: &mut [u32],
+    hashes: &[u32],
+)
+    requires { ⌜ (Small s) × ((s .pending .len ≤ 1032) × (EndFits last f (length (now filters)) (length (now offsets)) (length (now index)) × (last .made < 2 ^ 63))) ⌝ }
+    ensures { λ _. ⌜ EndRuns s last f (seven (now (out .entry)) (now (index .entry)) (now (filters .entry)) (now (restarts .entry)) (now («index_restarts» .entry)) (now (offsets .entry)) (now (hashes .entry))) (seven (now (out .exit)) (now (index .exit)) (now (filters .exit)) (now (restarts .entry)) (now («index_restarts» .exit)) (now (offsets .exit)) (now (hashes .entry))) ⌝ }
+{
+    close_last(
+        s,
+        out,
+        index,
+        filters,
+        restarts,
+        index_restarts,
+        offsets,
+        hashes,
+    );
+    filter_last(last, filters, offsets, hashes);
+    write_end(out, last, f, filters, offsets, index, index_restarts);
+}
+
 impl Builder {
     // Adds an entry: a user key, a sequence and a kind, and a value.
     pub fn add(
@@ -845,5 +1129,64 @@ impl Builder {
             offsets,
             hashes,
         )
+    }
+
+    // Writes all that is left of the table: its last block, filter block, metaindex, index and footer.
+    pub fn finish(
+        self,
+        out: &mut [u8],
+        index: &mut [u8],
+        filters: &mut [u8],
+        restarts: &mut [u32],
+        index_restarts: &mut [u32],
+        offsets: &mut [u32],
+        hashes: &mut [u32],
+    ) -> Finished
+        ensures { λ r. ⌜ FinishedIs self (seven (now (out .entry)) (now (index .entry)) (now (filters .entry)) (now (restarts .entry)) (now («index_restarts» .entry)) (now (offsets .entry)) (now (hashes .entry))) (seven (now (out .exit)) (now (index .exit)) (now (filters .exit)) (now (restarts .exit)) (now («index_restarts» .exit)) (now (offsets .exit)) (now (hashes .exit))) r ⌝ }
+    {
+        let lengths = Lengths {
+            out: out.len(),
+            index: index.len(),
+            filters: filters.len(),
+            restarts: restarts.len(),
+            index_restarts: index_restarts.len(),
+            offsets: offsets.len(),
+            hashes: hashes.len(),
+        };
+        let number = early(self, lengths, true);
+        if number != 0 {
+            return Finished {
+                answer: Outcome::Refused(number),
+                state: self,
+            };
+        }
+        let p = decide_end(self, lengths);
+        let answer = p.answer;
+        if answer != 0 {
+            return Finished {
+                answer: Outcome::Refused(answer),
+                state: self,
+            };
+        }
+        let last = p.last;
+        let sizes = p.sizes;
+        write_last(
+            self,
+            last,
+            sizes,
+            out,
+            index,
+            filters,
+            restarts,
+            index_restarts,
+            offsets,
+            hashes,
+        );
+        let mut over = self;
+        over.finished = true;
+        Finished {
+            answer: Outcome::Size(p.size),
+            state: over,
+        }
     }
 }

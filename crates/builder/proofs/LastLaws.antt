@@ -1,0 +1,414 @@
+-- Finish, of a state and runs that stand for a table.
+use Prim.Native.Nat.{ℕ, zero, suc, _+_, _*_, _-_, _/_, _^_, _≤_, _<_}
+use mathlib.Core.Path.{_≡_, refl, sym, ap, ap₂, _∙_}
+use mathlib.Core.Logic.{_⊎_, inl, inr}
+use mathlib.Core.List.{List, [], _∷_, _++_, map, append-nil}
+use mathlib.Core.Bool.{Bool, true, false, _&&_, cond}
+use native.Mathlib.Nat.{zero-add}
+use native.Mathlib.Omega.{arith}
+use lib.Dec.{leb}
+use lib.ListN.{length, take, length-append}
+use borrow.Author.Tests.{le-leb}
+use Rattle.codec.proofs.Prelude.{split}
+use Rattle.block.specs.Block.{Pair, packed, restartsOf, blockBytes}
+use Rattle.block.specs.Count.{BlockCount, countOf}
+use Rattle.block.specs.Builder.{countIn}
+use Rattle.block.proofs.CountLaws.{count-zero}
+use Rattle.filter.specs.declared.filter_block.Made.{Made}
+use Rattle.filter.specs.FilterBlock.{Filtering, Filters, noFilters, makeFilter, lastFilter, madeBytes, starts, filterBlockOf, filterBlockBytes}
+use Rattle.filter.specs.FilterCount.{FilterCount, filterCountOf, countLast}
+use Rattle.filter.specs.Choice.{choiceOf}
+use Rattle.filter.specs.Make.{groupsUpTo, roomFor, MadeFilters}
+use Rattle.filter.proofs.FilterBlockLaws.{made-append, starts-length}
+use Rattle.filter.proofs.FilterCountLaws.{count-last, last-kept}
+use Rattle.table.specs.Checked.{pass}
+use Rattle.table.specs.Options.{Options, indexInterval, Addition}
+use Rattle.table.specs.Build as Build
+use Rattle.table.specs.Build.{Building, pairOf, framed, written, indexPairs, filtersOf, filterBytes, metaPair, metaBytes, indexBytes, untilMeta, untilIndex, untilFooter, metaHandle, indexHandle, footerBytes, table, begin, lastKey, close, closeLast, acceptAll}
+use Rattle.table.specs.Runs.{Runs, filtersNow, entriesOf, restartsIn, held, between, finished, overlay, overlaid, FitsRoom, roomOf}
+use Rattle.table.specs.Counts.{countsOf, finishedSize}
+use Rattle.table.proofs.StepLaws as Step
+use Rattle.table.proofs.CountsLaws.{size-finished, no-open, last-filters}
+use Rattle.builder.specs.declared.table_builder.Lengths.{Lengths}
+use Rattle.builder.specs.declared.table_builder.Builder.{Builder}
+use Rattle.builder.specs.declared.table_builder.FilterSizes.{FilterSizes}
+use Rattle.builder.specs.declared.table_builder.Ending.{Ending}
+use Rattle.builder.specs.declared.table_builder.Outcome.the-variants as OutcomeCase
+use Rattle.builder.specs.State.{optionsOf, countsIn, lengthsOf, sane, Stands}
+use Rattle.builder.specs.Steps.{small, Small, Whole, filterCountIn, filtersIn, lastOf, closedState, lastState, earlyOf, lastFilters, endable, EndingIs}
+use Rattle.builder.specs.Writes.{LastRuns, LastFilters, filterBlock, metaBlock, EndFits, EndPut, EndRuns}
+use Rattle.builder.specs.Answers.{overState, FinishedIs}
+use Rattle.builder.proofs.SizeLaws as Size
+use Rattle.builder.proofs.DecideLaws.{sane-is, last-short}
+use Rattle.builder.proofs.AddLaws.{early-zero, early-traced}
+use Rattle.builder.proofs.OverlayLaws.{overlay-none, overlay-front, overlay-put, overlay-long, groups-some, starts-append}
+use Rattle.builder.proofs.CloseLaws.{Counted, Rooms, Lens, lens, counting, index-stands, filters-is, filtered-is, made-is, waiting-is, written-is, options-filter, options-interval, made-room, closed-counted, waits-close, closed-all}
+use Rattle.builder.proofs.TraceLaws.{Began, stands-counted, trace-began, trace-fits, trace-small, trace-is-small, trace-sane, last-is}
+
+-- a list of no length
+none-of : (w : List ℕ) → length w ≡ 0 → w ≡ []
+none-of [] e = refl
+none-of (x ∷ w) e = absurd (omega arith)
+
+last-no : (f : Filters) → f .waiting ≡ [] → lastFilter f ≡ f
+unfolding lastFilter
+last-no f e = cc
+
+last-yes : (f : Filters) → (length (f .waiting) ≡ 0 → ⊥) → lastFilter f ≡ makeFilter f
+last-yes f n = go (f .waiting) refl
+  where
+    go : (w : List ℕ) → f .waiting ≡ w → lastFilter f ≡ makeFilter f
+    go [] e = absurd (n (ap length e))
+    go (x ∷ w) e = unfold lastFilter in cc
+
+module _ (o : Options) (more : List Addition) (b : Building) (s : Builder) (r : Runs) (e : acceptAll o (roomOf (length (r .out))) begin more ≡ pass b) (t : Stands o b s r) where
+  abbrev room : ℕ
+  room = roomOf (length (r .out))
+
+  abbrev h : Counted o b s
+  h = stands-counted t
+
+  abbrev c : Building
+  c = closeLast b
+
+  abbrev mid : Builder
+  mid = lastState s
+
+  is-small : Small s
+  is-small = trace-is-small o more b s r e t
+
+  rooms : Rooms room r
+  rooms = trace-began o more b s r e t .rooms
+
+  short : length (lastOf s) ≤ 1032
+  short = last-short s (t .short .0)
+
+  cases : {P : Type 0} → (c ≡ b → mid ≡ s → s .pending .restarts ≡ 0 → P) → (c ≡ close (lastOf s) b → mid ≡ closedState s (lastOf s) → (s .pending .restarts ≡ 0 → ⊥) → P) → P
+  cases {P} f g = go (b .openBlock) refl
+    where
+      restarts : s .pending .restarts ≡ countOf (o .interval) (map pairOf (b .openBlock)) .restarts
+      restarts = unfold countIn in ap (λ (x : BlockCount). x .restarts) (counting h .counts)
+
+      go : (xs : List Addition) → b .openBlock ≡ xs → P
+      go [] q = let z : s .pending .restarts ≡ 0 = restarts ∙ count-zero (o .interval) (map pairOf (b .openBlock)) .1 (rw q) in f (Step.last-none b q) (sym (Size.last-none s z)) z
+      go (x ∷ xs) q =
+          let n : s .pending .restarts ≡ 0 → ⊥ = λ z.
+          let y = count-zero (o .interval) (map pairOf (b .openBlock)) .0 (sym restarts ∙ z) in
+          let u : _≡_ {A = ℕ} 0 1 = cc in
+          omega arith in
+          g (Step.last-some b x xs q ∙ ap (λ (k : List ℕ). close k b) (sym (last-is h))) (sym (Size.last-some s n)) n
+
+  pub last-counted : Counted o c mid
+  last-counted = cases (λ x y z. rw (x, y) h) (λ x y z. rw (x, y) (closed-counted h is-small (lastOf s) short))
+
+  abbrev fin : FitsRoom room (finished o b)
+  fin = trace-fits o more b s r e t .1
+
+  waits-fit : length (filtersNow o c .waiting) ≤ room / 4
+  waits-fit =
+      let f : length (filtersNow o b .waiting) ≤ room / 4 = unfold between held in trace-fits o more b s r e t .0 .hashes in
+      cases (λ x y z. rw x f) (λ x y z. rw x (waits-close h is-small (lastOf s) short (λ (w : List ℕ). length w ≤ room / 4) f (omega arith)))
+
+  -- the filters at the end
+  abbrev fs : Filters
+  fs = filtersNow o c
+
+  end-filters : filtersOf o 0 noFilters (c .closed) ≡ fs
+  end-filters = sym (last-filters o b)
+
+  counts-end : lastFilters s ≡ filterCountOf (o .filtering) (lastFilter fs)
+  unfolding lastFilters filtersIn
+  counts-end = ap₂ countLast (options-filter s o (t .options)) (filters-is last-counted) ∙ sym (count-last (o .filtering) fs)
+
+  table-most : length (written o (c .closed)) ≤ length (Build.finish o b)
+  unfolding Build.finish
+  table-most = omega (arith, Step.table-length o (c .closed))
+
+  out-written : between o c .out ≡ written o (c .closed)
+  unfolding between held entriesOf packed
+  out-written = rw (no-open o b) (append-nil (written o (c .closed)))
+
+  made-most : (length (madeBytes (o .filtering) (fs .made)) ≤ length (madeBytes (o .filtering) (lastFilter fs .made))) × (length (fs .made) ≤ length (lastFilter fs .made))
+  unfolding filterCountOf
+  made-most =
+      let k = last-kept (o .filtering) (filterCountOf (o .filtering) fs) .0 in
+      let q = count-last (o .filtering) fs in
+      (omega (arith, k .bytes, ap (λ (x : FilterCount). x .bytes) q), omega (arith, k .made, ap (λ (x : FilterCount). x .made) q))
+
+  end-fits : (length (madeBytes (o .filtering) (lastFilter fs .made)) ≤ room) × (length (starts (o .filtering) 0 (lastFilter fs .made)) ≤ room / 4)
+  unfolding finished held
+  end-fits = (rw end-filters at (fin .filters), rw end-filters at (fin .offsets))
+
+  fin-out : length (Build.finish o b) ≤ room
+  unfolding finished held
+  fin-out = fin .out
+
+  mid-fits : FitsRoom room (between o c)
+  mid-fits =
+      record {
+        out = rw out-written (omega (arith, table-most, fin-out));
+        index = (unfold between finished held in fin .index);
+        filters = (unfold between held in omega (arith, end-fits .0, made-most .0));
+        restarts = (unfold between finished held in fin .restarts);
+        indexRestarts = (unfold between finished held in fin .indexRestarts);
+        offsets = (unfold between held in omega (arith, end-fits .1, made-most .1, starts-length (o .filtering) 0 (fs .made), starts-length (o .filtering) 0 (lastFilter fs .made)));
+        hashes = (unfold between held in waits-fit);
+      }
+
+  -- what the writes leave
+  module _ (r₁ : Runs) (g : LastRuns s r r₁) where
+    pub mid-runs : r₁ ≡ overlaid (between o c) r
+    mid-runs =
+        cases
+        (λ x y z. rw x (g .none z ∙ t .runs))
+        (λ x y z. rw x (closed-all h is-small (lastOf s) short room r r₁ rooms (trace-fits o more b s r e t .0) (rw x at mid-fits) (t .runs) (g .some z)))
+
+    eq-out : r₁ .out ≡ overlay (written o (c .closed)) (r .out)
+    unfolding overlaid
+    eq-out = rw out-written at (ap (λ (x : Runs). x .out) mid-runs)
+
+    eq-index : r₁ .index ≡ overlay (between o c .index) (r .index)
+    unfolding overlaid
+    eq-index = ap (λ (x : Runs). x .index) mid-runs
+
+    eq-index-restarts : r₁ .indexRestarts ≡ overlay (between o c .indexRestarts) (r .indexRestarts)
+    unfolding overlaid
+    eq-index-restarts = ap (λ (x : Runs). x .indexRestarts) mid-runs
+
+    eq-filters : r₁ .filters ≡ overlay (madeBytes (o .filtering) (fs .made)) (r .filters)
+    unfolding overlaid between held
+    eq-filters = ap (λ (x : Runs). x .filters) mid-runs
+
+    eq-offsets : r₁ .offsets ≡ overlay (starts (o .filtering) 0 (fs .made)) (r .offsets)
+    unfolding overlaid between held
+    eq-offsets = ap (λ (x : Runs). x .offsets) mid-runs
+
+    eq-hashes : r₁ .hashes ≡ overlay (fs .waiting) (r .hashes)
+    unfolding overlaid between held
+    eq-hashes = ap (λ (x : Runs). x .hashes) mid-runs
+
+    -- the last filter
+    module _ (f′ q′ : List ℕ) (k : LastFilters mid (r₁ .filters) f′ (r₁ .offsets) q′ (r₁ .hashes)) where
+      abbrev ch : Filtering
+      ch = o .filtering
+
+      mid-filter : choiceOf (mid .options .filter) ≡ ch
+      mid-filter = options-filter mid o (last-counted .options)
+
+      pub last-runs : (f′ ≡ overlay (madeBytes ch (lastFilter fs .made)) (r .filters)) × (q′ ≡ overlay (starts ch 0 (lastFilter fs .made)) (r .offsets))
+      last-runs = split 0 (mid .waiting) some none
+        where
+          none : mid .waiting ≤ 0 → (f′ ≡ overlay (madeBytes ch (lastFilter fs .made)) (r .filters)) × (q′ ≡ overlay (starts ch 0 (lastFilter fs .made)) (r .offsets))
+          none l =
+              let z : mid .waiting ≡ 0 = omega arith in
+              let w = last-no fs (none-of (fs .waiting) (sym (waiting-is last-counted) ∙ z)) in
+              let p = k .none z in
+              rw w (p .0 ∙ eq-filters, p .1 ∙ eq-offsets)
+
+          some : 0 < mid .waiting → (f′ ≡ overlay (madeBytes ch (lastFilter fs .made)) (r .filters)) × (q′ ≡ overlay (starts ch 0 (lastFilter fs .made)) (r .offsets))
+          some l =
+              let ms = fs .made in
+              let gs = fs .waiting ∷ [] in
+              let wi = waiting-is last-counted in
+              let mi = made-is last-counted in
+              let bi = filtered-is last-counted in
+              let w : lastFilter fs .made ≡ ms ++ gs = made-of (last-yes fs (λ z. omega arith)) in
+              let tk : take (mid .waiting) (r₁ .hashes) ≡ fs .waiting = rw wi (overlay-front (fs .waiting) (r₁ .hashes) (r .hashes) eq-hashes) in
+              let gg : groupsUpTo (mid .made) (mid .made + 1) (take (mid .waiting) (r₁ .hashes)) ≡ gs = one-group tk in
+              let x : MadeFilters ch gs (mid .filtered) (mid .made) (k .made) (r₁ .filters) f′ (r₁ .offsets) q′ = rw (mid-filter, gg) at (k .some (λ z. omega arith)) in
+              let mb : madeBytes ch (lastFilter fs .made) ≡ madeBytes ch ms ++ madeBytes ch gs = ap (madeBytes ch) w ∙ made-append ch ms gs in
+              let ob : starts ch 0 (lastFilter fs .made) ≡ starts ch 0 ms ++ starts ch (mid .filtered) gs =
+              ap (starts ch 0) w ∙ starts-append ch 0 ms gs ∙ ap (λ (n : ℕ). starts ch 0 ms ++ starts ch n gs) (zero-add (length (madeBytes ch ms)) ∙ sym bi) in
+              let lm : length (madeBytes ch ms ++ madeBytes ch gs) ≤ room = rw mb at (end-fits .0) in
+              let lo : length (starts ch 0 ms ++ starts ch (mid .filtered) gs) ≤ room / 4 = rw ob at (end-fits .1) in
+              let nm = length-append (madeBytes ch ms) (madeBytes ch gs) in
+              let no′ = length-append (starts ch 0 ms) (starts ch (mid .filtered) gs) in
+              let sl = starts-length ch 0 ms in
+              let zf = rooms .filters in
+              let zo = rooms .offsets in
+              let zl = rooms .limit in
+              let lf = overlay-long (madeBytes ch ms) (r₁ .filters) (r .filters) eq-filters (omega arith) in
+              let lq = overlay-long (starts ch 0 ms) (r₁ .offsets) (r .offsets) eq-offsets (omega arith) in
+              let ok : roomFor ch (mid .filtered) gs (r₁ .filters) (r₁ .offsets) (mid .made) ≡ true = made-room ch gs (mid .filtered) (mid .made) (r₁ .filters) (r₁ .offsets) (omega arith) (omega arith) (omega arith) in
+              let nf : mid .made ≡ length (starts ch 0 ms) = omega arith in (
+                x .filters ∙ rw ok (overlay-put (madeBytes ch ms) (madeBytes ch gs) (r₁ .filters) (r .filters) (mid .filtered) bi eq-filters (omega arith) ∙ ap (λ (z : List ℕ). overlay z (r .filters)) (sym mb)),
+                x .offsets ∙ rw ok (overlay-put (starts ch 0 ms) (starts ch (mid .filtered) gs) (r₁ .offsets) (r .offsets) (mid .made) nf eq-offsets (omega arith) ∙ ap (λ (z : List ℕ). overlay z (r .offsets)) (sym ob)),
+              )
+            where
+              made-of : lastFilter fs ≡ makeFilter fs → lastFilter fs .made ≡ fs .made ++ (fs .waiting ∷ [])
+              made-of q = ap (λ (z : Filters). z .made) q ∙ (unfold makeFilter in refl)
+
+              one-group : take (mid .waiting) (r₁ .hashes) ≡ fs .waiting → groupsUpTo (mid .made) (mid .made + 1) (take (mid .waiting) (r₁ .hashes)) ≡ fs .waiting ∷ []
+              one-group q =
+                  let n : mid .made + 1 - mid .made - 1 ≡ 0 = omega arith in
+                  groups-some (mid .made) (mid .made + 1) (take (mid .waiting) (r₁ .hashes)) (omega arith) ∙ rw (q, n)
+
+      -- the table
+      module _ (f : FilterSizes) (ef : filterCountIn f ≡ lastFilters s) (out′ : List ℕ) (k₂ : EndPut mid f f′ q′ (r₁ .index) (r₁ .indexRestarts) (r₁ .out) out′) where
+        abbrev cs : List Build.Chunk
+        cs = c .closed
+
+        sizes-are : filterCountIn f ≡ filterCountOf ch (lastFilter fs)
+        sizes-are = ef ∙ counts-end
+
+        f-bytes : f .bytes ≡ length (madeBytes ch (lastFilter fs .made))
+        unfolding filterCountIn filterCountOf
+        f-bytes = ap (λ (x : FilterCount). x .bytes) sizes-are
+
+        f-made : f .made ≡ length (starts ch 0 (lastFilter fs .made))
+        unfolding filterCountIn filterCountOf
+        f-made = ap (λ (x : FilterCount). x .made) sizes-are ∙ sym (starts-length ch 0 (lastFilter fs .made))
+
+        filter-is : filterBlock f f′ q′ ≡ filterBytes o cs
+        unfolding filterBlock filterBytes filterBlockBytes
+        filter-is =
+            let x : take (f .bytes) f′ ≡ madeBytes ch (lastFilter fs .made) = rw f-bytes (overlay-front (madeBytes ch (lastFilter fs .made)) f′ (r .filters) (last-runs .0)) in
+            let y : take (f .made) q′ ≡ starts ch 0 (lastFilter fs .made) = rw f-made (overlay-front (starts ch 0 (lastFilter fs .made)) q′ (r .offsets) (last-runs .1)) in
+            ap₂ filterBlockOf x y ∙ ap (λ (z : Filters). filterBlockOf (madeBytes ch (lastFilter z .made)) (starts ch 0 (lastFilter z .made))) (sym end-filters)
+
+        mid-interval : mid .options .interval ≡ o .interval
+        mid-interval = options-interval mid o (last-counted .options)
+
+        meta-is : metaBlock mid (length (filterBlock f f′ q′)) ≡ metaBytes o cs
+        unfolding metaBlock metaBytes metaPair
+        meta-is = rw (filter-is, mid-interval, mid-filter, written-is last-counted)
+
+        least-most : (1 ≤ mid .options .interval) × (mid .options .interval ≤ 1024)
+        least-most =
+            let n = options-interval s o (t .options) in
+            (omega (arith, mid-interval, n, is-small .least), omega (arith, mid-interval, n, is-small .most))
+
+        abbrev whole : List ℕ → List ℕ → List ℕ
+        whole fb mb =
+            let w = written o cs in
+            let ib = indexBytes o cs in
+            let t = w ++ framed fb in
+            let u = t ++ framed mb in
+            u ++ framed ib ++ footerBytes (record { offset = length t; size = length mb }) (record { offset = length u; size = length ib })
+
+        whole-is : whole (filterBlock f f′ q′) (metaBlock mid (length (filterBlock f f′ q′))) ≡ Build.finish o b
+        unfolding Build.finish table untilFooter untilIndex untilMeta metaHandle indexHandle
+        whole-is = ap₂ whole filter-is meta-is
+
+        pub end-out : out′ ≡ overlay (Build.finish o b) (r .out)
+        unfolding indexBytes
+        end-out =
+            let l : length (whole (filterBlock f f′ q′) (metaBlock mid (length (filterBlock f f′ q′)))) ≤ length (r .out) = rw whole-is (omega (arith, fin-out, rooms .out)) in
+            k₂ .wrote (least-most .0) (least-most .1) (indexInterval o) (indexPairs o 0 cs) (index-stands last-counted (r .index) (r .indexRestarts) eq-index eq-index-restarts) (written o cs) (r .out) eq-out
+            (sym (written-is last-counted)) l
+            ∙ ap (λ (x : List ℕ). overlay x (r .out)) whole-is
+
+  -- all of it
+  waits-none : lastFilter fs .waiting ≡ []
+  waits-none = none-of (lastFilter fs .waiting) (unfold filterCountOf in ap (λ (x : FilterCount). x .waiting) (count-last (o .filtering) fs) ∙ last-kept (o .filtering) (filterCountOf (o .filtering) fs) .1)
+
+  fin-eq : (r′ : Runs) → r′ .out ≡ overlay (Build.finish o b) (r .out) → r′ .index ≡ overlay (between o c .index) (r .index)
+      → r′ .filters ≡ overlay (madeBytes (o .filtering) (lastFilter fs .made)) (r .filters) → r′ .restarts ≡ r .restarts
+      → r′ .indexRestarts ≡ overlay (between o c .indexRestarts) (r .indexRestarts) → r′ .offsets ≡ overlay (starts (o .filtering) 0 (lastFilter fs .made)) (r .offsets) → r′ .hashes ≡ r .hashes
+      → r′ ≡ overlaid (finished o b) r
+  unfolding overlaid finished between held restartsIn restartsOf
+  fin-eq r′ x₀ x₁ x₂ x₃ x₄ x₅ x₆ =
+      let z : lastFilter (filtersOf o 0 noFilters (c .closed)) ≡ lastFilter fs = ap lastFilter end-filters in
+      let y₂ = x₂ ∙ ap (λ (q : Filters). overlay (madeBytes (o .filtering) (q .made)) (r .filters)) (sym z) in
+      let y₃ = x₃ ∙ overlay-none (r .restarts) ∙ ap (λ (xs : List Addition). overlay (restartsIn (o .interval) (map pairOf xs)) (r .restarts)) (sym (no-open o b)) in
+      let y₅ = x₅ ∙ ap (λ (q : Filters). overlay (starts (o .filtering) 0 (q .made)) (r .offsets)) (sym z) in
+      let y₆ = x₆ ∙ overlay-none (r .hashes) ∙ ap (λ (w : List ℕ). overlay w (r .hashes)) (sym waits-none) ∙ ap (λ (q : Filters). overlay (q .waiting) (r .hashes)) (sym z) in
+      λ i. record { out = x₀ i; index = x₁ i; filters = y₂ i; restarts = y₃ i; indexRestarts = x₄ i; offsets = y₅ i; hashes = y₆ i }
+
+  pub end-runs : (f : FilterSizes) → filterCountIn f ≡ lastFilters s → (r′ : Runs) → EndRuns s mid f r r′ → r′ ≡ overlaid (finished o b) r
+  end-runs f ef r′ g =
+      let m = g .mid in
+      let k = g .closed in
+      let lr = last-runs m k (r′ .filters) (r′ .offsets) (g .filters) in
+      fin-eq r′ (end-out m k (r′ .filters) (r′ .offsets) (g .filters) f ef (r′ .out) (g .out)) (g .index ∙ eq-index m k) (lr .0) (g .restarts) (g .indexRestarts ∙ eq-index-restarts m k) (lr .1) (g .hashes)
+
+  -- and its size
+  pub end-size : finishedSize (optionsOf (s .options)) (countsIn s) ≡ length (Build.finish o b)
+  end-size = ap₂ finishedSize (t .options) (t .counts) ∙ sym (size-finished o b)
+
+  pub end-endable : endable s (lengthsOf r) ≡ true
+  unfolding endable lengthsOf filterCountOf
+  end-endable =
+      let q = counts-end in
+      let qb = ap (λ (x : FilterCount). x .bytes) q in
+      let qm = ap (λ (x : FilterCount). x .made) q in
+      let x = lens last-counted in
+      rw (
+        le-leb (finishedSize (optionsOf (s .options)) (countsIn s)) (length (r .out)) (omega (arith, end-size, fin-out, rooms .out)),
+        le-leb (lastFilters s .bytes) (length (r .filters)) (omega (arith, qb, end-fits .0, rooms .filters)),
+        le-leb (lastFilters s .made) (length (r .offsets)) (omega (arith, qm, end-fits .1, starts-length (o .filtering) 0 (lastFilter fs .made), rooms .offsets)),
+        le-leb (mid .indexed .bytes) (length (r .index)) (omega (arith, x .index, mid-fits .index, rooms .index)),
+      )
+
+  pub end-decides : {p : Ending} → EndingIs s (lengthsOf r) p → (p .answer ≡ 0) × (p .size ≡ length (Build.finish o b))
+  end-decides {p} g =
+      let w = h .whole in
+      let z : p .answer ≡ 0 = g .answer w ∙ rw (trace-small o more b s r e t, end-endable) in
+      (z, g .size z w ∙ end-size)
+
+-- ---- finish
+
+module _ (s : Builder) (r : Runs) {n : ℕ} (q : n ≡ earlyOf s (lengthsOf r) true) where
+  early-none : (o : Options) (more : List Addition) (b : Building) → acceptAll o (roomOf (length (r .out))) begin more ≡ pass b → Stands o b s r → n ≡ 0
+  early-none o more b e t = q ∙ early-traced s (lengthsOf r) true (t .going) (trace-sane o more b s r e t)
+
+  pub finish-refused : (n ≡ 0 → ⊥) → FinishedIs s r r (record { answer = OutcomeCase.Refused n; state = s })
+  finish-refused z =
+      record {
+        early = λ x. ap OutcomeCase.Refused q;
+        later = λ x. absurd (z (q ∙ x));
+        refused = λ m x. (refl, refl);
+        over = λ m x. absurd (let u : _≡_ {A = ℕ} 0 1 = cc in omega arith);
+        answer = λ o more b e t. absurd (z (early-none o more b e t));
+        runs = λ o more b e t. absurd (z (early-none o more b e t));
+      }
+
+  pub finish-is-sane : n ≡ 0 → sane s (lengthsOf r) ≡ true
+  finish-is-sane z = early-zero s (lengthsOf r) true (sym q ∙ z) .0
+
+  module _ (z : n ≡ 0) {p : Ending} (g : EndingIs s (lengthsOf r) p) where
+    pub finish-full : (p .answer ≡ 0 → ⊥) → FinishedIs s r r (record { answer = OutcomeCase.Refused (p .answer); state = s })
+    finish-full k =
+        record {
+          early = λ x. absurd (x (sym q ∙ z));
+          later = λ x m y. let v : m ≡ p .answer = cc in v ∙ five (g .kind);
+          refused = λ m x. (refl, refl);
+          over = λ m x. absurd (let u : _≡_ {A = ℕ} 0 1 = cc in omega arith);
+          answer = λ o more b e t. absurd (k (end-decides o more b s r e t g .0));
+          runs = λ o more b e t. absurd (k (end-decides o more b s r e t g .0));
+        }
+      where
+        five : (p .answer ≡ 0) ⊎ (p .answer ≡ 5) → p .answer ≡ 5
+        five (inl x) = absurd (k x)
+        five (inr x) = x
+
+    module _ (k : p .answer ≡ 0) where
+      pub finish-ready : (Small s) × ((s .pending .len ≤ 1032) × (EndFits (p .last) (p .sizes) (length (r .filters)) (length (r .offsets)) (length (r .index)) × (p .last .made < 2 ^ 63)))
+      unfolding lengthsOf lastFilters filtersIn
+      finish-ready =
+          let x = sane-is s (lengthsOf r) (finish-is-sane z) in
+          let m = g .small k in
+          let l = last-short s (x .len) in
+          let w = g .within k in
+          let ef = g .sizes k ∙ ap (λ (d : Builder). countLast (choiceOf (s .options .filter)) (record { bytes = d .filtered; made = d .made; waiting = d .waiting })) (sym (g .last k)) in
+          let v = Size.last-sizes s m l (p .last) (p .sizes) (g .last k) ef in (
+            m,
+            (
+              x .len,
+              (
+                record { written = v .2; filterBytes = v .0; made = v .1; indexSize = v .3; inFilters = w .0; inOffsets = w .1 .0; inIndex = w .1 .1 },
+                omega (arith, Size.last-room s m l (p .last) (g .last k) .1),
+              ),
+            ),
+          )
+
+      pub finish-done : (r′ : Runs) → EndRuns s (p .last) (p .sizes) r r′ → {x : Builder} → x ≡ overState s → FinishedIs s r r′ (record { answer = OutcomeCase.Size (p .size); state = x })
+      finish-done r′ f {x} ex =
+          record {
+            early = λ y. absurd (y (sym q ∙ z));
+            later = λ y m u. absurd (let v : _≡_ {A = ℕ} 0 1 = cc in omega arith);
+            refused = λ m u. absurd (let v : _≡_ {A = ℕ} 0 1 = cc in omega arith);
+            over = λ m u. ex;
+            answer = λ o more b e t. ap OutcomeCase.Size (end-decides o more b s r e t g .1);
+            runs = λ o more b e t. end-runs o more b s r e t (p .sizes) (g .sizes k) r′ (rw (g .last k) at f);
+          }
