@@ -4,7 +4,6 @@ use mathlib.Core.Path.{_≡_, refl, sym, ap, _∙_}
 use mathlib.Core.Logic.{_⊎_, inl, inr}
 use mathlib.Core.List.{List, [], _∷_, _++_}
 use mathlib.Core.Bool.{Bool, true, false, cond}
-use native.Mathlib.Nat.{zero-add}
 use native.Mathlib.Omega.{arith}
 use lib.Dec.{leb}
 use lib.ListN.{length, take}
@@ -15,7 +14,7 @@ use Rattle.codec.proofs.Prelude.{test, both, true-is}
 use Rattle.codec.proofs.PutLaws.{put-length, put-front, wrote-next, wrote-never}
 use Rattle.keys.specs.Order.{internal}
 use Rattle.keys.proofs.KeyLaws.{internal-length}
-use Rattle.table.specs.Checked.{Checked, pass, refuse, _>>=_, ask}
+use Rattle.table.specs.Checked.{pass, refuse, _>>=_, ask}
 use Rattle.table.specs.Options.{Options, Addition, additionFits}
 use Rattle.table.specs.Build.{Building, keyOf, begin, closeBefore, add, finish, above, accept, acceptAll}
 use Rattle.table.proofs.CheckedLaws.{refuse-pass}
@@ -23,19 +22,18 @@ use Rattle.table.specs.Runs.{Runs, between, overlaid, FitsRoom, roomOf}
 use Rattle.table.proofs.AcceptLaws.{within-parts}
 use Rattle.block.specs.Formed.{within}
 use Rattle.table.proofs.SufficeLaws.{runs-suffice}
-use Rattle.builder.specs.declared.table_builder.Answer.{Answer}
 use Rattle.builder.specs.declared.table_builder.Answer.the-variants as AnswerCase
 use Rattle.builder.specs.declared.table_builder.Lengths.{Lengths}
 use Rattle.builder.specs.declared.table_builder.Builder.{Builder}
 use Rattle.builder.specs.declared.table_builder.Plan.{Plan}
 use Rattle.builder.specs.declared.table_builder.Added.{Added}
 use Rattle.builder.specs.State.{lengthsOf, sane, Stands}
-use Rattle.builder.specs.Steps.{Whole, Ready, earlyOf, midOf, nextOf, decideOf, enteredState, DecidedIs, cutOf, sepOf}
+use Rattle.builder.specs.Steps.{Ready, earlyOf, midOf, nextOf, enteredState, DecidedIs, cutOf, sepOf}
 use Rattle.builder.specs.Writes.{CutRuns, EnteredRuns, PutRuns, numbered, PutIs}
 use Rattle.builder.specs.Answers.{answerOf, Later, Traced, AddedIs}
 use Rattle.builder.proofs.CloseLaws.{Counted, closed-all}
 use Rattle.builder.proofs.EnterLaws.{enter-fits, entered-all}
-use Rattle.builder.proofs.TraceLaws.{Began, took, accept-more, refusalOf, lengths-of, start-lengths, overlaid-itself, stands-counted, cut-close, no-cut-close, sep-short, mid-counted, roomy, addition-short, trace-began, trace-fits, trace-sane, trace-is-small, trace-next, trace-whole, trace-decides, next-short, next-lengths, mid-same}
+use Rattle.builder.proofs.TraceLaws.{took, accept-more, refusalOf, lengths-of, start-lengths, overlaid-itself, stands-counted, cut-close, no-cut-close, sep-short, mid-counted, roomy, addition-short, trace-began, trace-fits, trace-sane, trace-is-small, trace-next, trace-whole, trace-decides, next-short, next-lengths, mid-same}
 
 -- ---- the key
 

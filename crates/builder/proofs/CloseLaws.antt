@@ -1,35 +1,33 @@
 -- What a state that counts a table tells of the runs, and what closing a block leaves in them.
-use Prim.Native.Nat.{ℕ, _+_, _-_, _*_, _/_, _^_, _≤_, _<_}
+use Prim.Native.Nat.{ℕ, _+_, _-_, _/_, _^_, _≤_, _<_}
 use mathlib.Core.Path.{_≡_, refl, sym, ap, ap₂, _∙_}
 use mathlib.Core.List.{List, [], _∷_, _++_, map, append-nil}
-use mathlib.Core.Bool.{Bool, true, false, cond}
+use mathlib.Core.Bool.{true}
 use native.Mathlib.Nat.{zero-add, add-zero}
 use native.Mathlib.Omega.{arith}
-use lib.Dec.{leb, ltb}
 use lib.ListN.{length, take, drop, length-append, length-replicate}
 use lib.Seq.{take-at}
 use borrow.Author.Tests.{le-leb, lt-ltb}
 use Rattle.codec.specs.Bytes.{part}
 use Rattle.codec.specs.Checksum.{trailer}
-use Rattle.codec.specs.Put.{room, put, putAnswer, Wrote}
+use Rattle.codec.specs.Put.{room, put}
 use Rattle.codec.specs.Varint.{handleBytes}
 use Rattle.codec.proofs.PutLaws.{put-put, put-behind, put-length}
 use Rattle.block.specs.declared.block_builder.BlockBuilder.{BlockBuilder}
 use Rattle.block.specs.declared.block_builder.Added.{Added}
-use Rattle.block.specs.Block.{Pair, packed, restartsOf, tailBytes, blockBytes}
+use Rattle.block.specs.Block.{Pair, packed, restartsOf}
 use Rattle.block.specs.Count.{BlockCount, countOf, countEntry, countSize}
 use Rattle.block.specs.Builder as Blocks
 use Rattle.block.specs.Builder.{countIn, newBuilder, builderAfter, builderWith, addable, countable, AddedIs, Counting}
-use Rattle.block.proofs.BuilderLaws.{stands-more, stands-finish, stands-size, added-kept}
+use Rattle.block.proofs.BuilderLaws.{stands-more, stands-finish, added-kept}
 use Rattle.block.proofs.BuilderCode.{addable-room, room-mark}
-use Rattle.block.proofs.CountLaws.{count-size}
 use Rattle.filter.specs.FilterBlock.{Filtering, Filters, noFilters, wait, filtersUpTo, madeBytes, starts}
 use Rattle.filter.specs.declared.filter_block.Made.{Made}
 use Rattle.filter.specs.FilterCount.{FilterCount, filterCountOf}
 use Rattle.filter.specs.Choice.{choiceOf}
 use Rattle.filter.specs.Make.{groupsUpTo, roomFor, MadeFilters}
 use Rattle.filter.proofs.FilterBlockLaws.{made-append, starts-length}
-use Rattle.table.specs.Options.{Options, indexInterval, Addition}
+use Rattle.table.specs.Options.{Options, indexInterval}
 use Rattle.table.specs.Build.{Chunk, Building, pairOf, framed, chunkBytes, written, endOf, indexPairs, filtersOf, close}
 use Rattle.table.specs.Runs.{Runs, filtersNow, entriesOf, restartsIn, held, between, overlay, overlaid, FitsRoom}
 use Rattle.table.specs.Counts.{Counts, countsOf, countClose, handleSize}

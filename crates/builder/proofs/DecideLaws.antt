@@ -1,15 +1,14 @@
 -- What is decided of an addition before anything is written.
-use Prim.Native.Nat.{ℕ, _+_, _-_, _^_, _≤_, _<_}
+use Prim.Native.Nat.{ℕ, _+_, _-_, _≤_}
 use mathlib.Core.Path.{_≡_, refl, sym, ap, _∙_}
-use mathlib.Core.Logic.{_⊎_, inl, inr}
-use mathlib.Core.List.{List, []}
-use mathlib.Core.Bool.{Bool, true, false, _&&_, cond}
-use native.Mathlib.Nat.{zero-add}
+use mathlib.Core.Logic.{inl, inr}
+use mathlib.Core.List.{List}
+use mathlib.Core.Bool.{Bool, true, false, _&&_}
 use native.Mathlib.Omega.{arith}
-use lib.Dec.{eqb, leb, ltb}
+use lib.Dec.{leb, ltb}
 use lib.ListN.{length, take, length-append, length-take}
-use borrow.Author.Tests.{leb-true, ltb-true, eqb-true, eq-eqb, ne-eqb}
-use Rattle.codec.specs.Put.{put, Wrote}
+use borrow.Author.Tests.{leb-true, ltb-true, eq-eqb, ne-eqb}
+use Rattle.codec.specs.Put.{Wrote}
 use Rattle.codec.specs.declared.put.Written.{Written}
 use Rattle.codec.specs.declared.put.Written.the-variants.{At, NoRoom}
 use Rattle.codec.proofs.Prelude.{test, both}
@@ -21,10 +20,9 @@ use Rattle.table.specs.Runs.{roomOf}
 use Rattle.table.specs.Counts.{finishedSize}
 use Rattle.builder.specs.declared.table_builder.Lengths.{Lengths}
 use Rattle.builder.specs.declared.table_builder.Builder.{Builder}
-use Rattle.builder.specs.declared.table_builder.Plan.{Plan}
 use Rattle.builder.specs.State.{optionsOf, countsIn, sameLengths, sizesFit, sane}
 use Rattle.builder.specs.Steps.{small, Small, lastOf, closedState, Roomy, enteredState, Whole, earlyOf, aboveLast, cutOf, sepOf, midOf, nextOf, fitsOf, decideOf, DecidedIs}
-use Rattle.builder.proofs.SizeLaws.{small-is, Bounded, bounded-closed}
+use Rattle.builder.proofs.SizeLaws.{small-is, bounded-closed}
 
 -- ---- what a sane state has
 

@@ -1,8 +1,8 @@
 -- The end of a table, block behind block.
 use Prim.Native.Nat.{ℕ, _+_, _*_, _-_, _^_, _≤_, min}
 use mathlib.Core.Path.{_≡_, refl, sym, ap, subst, _∙_}
-use mathlib.Core.Logic.{_⊎_, inl, inr}
-use mathlib.Core.Bool.{Bool, true, false, _&&_, cond}
+use mathlib.Core.Logic.{inl, inr}
+use mathlib.Core.Bool.{Bool, true, false, _&&_}
 use lib.Dec.{leb}
 use borrow.Author.Tests.{leb-true}
 use Rattle.codec.proofs.Prelude.{both}
@@ -12,10 +12,8 @@ use lib.ListN.{length, take, length-append}
 use lib.Seq.{length-take-le}
 use Rattle.codec.specs.Put.{put}
 use Rattle.codec.specs.Varint.{handleBytes}
-use Rattle.block.specs.declared.block_builder.BlockBuilder.{BlockBuilder}
 use Rattle.block.specs.Block.{Pair, blockBytes}
 use Rattle.block.specs.Count.{entrySize, countSize}
-use Rattle.block.specs.Builder as Blocks
 use Rattle.block.specs.Builder.{countIn}
 use Rattle.block.proofs.BuildLaws.{one-long}
 use Rattle.block.proofs.BuilderLaws.{stands-size}
@@ -32,7 +30,6 @@ use Rattle.builder.specs.declared.table_builder.FilterSizes.{FilterSizes
 use Rattle.filter.specs.FilterCount.{FilterCount, countLast}
 use Rattle.table.specs.Counts.{finishedSize}
 use Rattle.builder.specs.declared.table_builder.Lengths.{Lengths}
-use Rattle.builder.specs.declared.table_builder.Ending.{Ending}
 use Rattle.builder.specs.State.{optionsOf, countsIn}
 use Rattle.builder.specs.Steps.{small, Small, Whole, filterCountIn, filtersIn, lastState, metaLen, lastFilters, endable, EndingIs}
 use Rattle.builder.specs.Writes.{Framed, IndexPut, EndFits, filterBlock, metaBlock, EndPut}

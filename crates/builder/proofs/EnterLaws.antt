@@ -1,16 +1,15 @@
 -- What one entry more leaves in the runs.
-use Prim.Native.Nat.{ℕ, suc, _+_, _-_, _/_, _^_, _≤_, _<_, min}
-use mathlib.Core.Path.{_≡_, refl, sym, ap, ap₂, _∙_}
-use mathlib.Core.List.{List, [], _∷_, _++_, map, map-append, append-nil}
-use mathlib.Core.Bool.{Bool, true, false}
+use Prim.Native.Nat.{ℕ, _+_, _-_, _≤_}
+use mathlib.Core.Path.{_≡_, sym, ap, ap₂, _∙_}
+use mathlib.Core.List.{List, [], _∷_, _++_, map, map-append}
+use mathlib.Core.Bool.{true}
 use native.Mathlib.Numerals.{add-one}
 use native.Mathlib.Omega.{arith}
-use lib.ListN.{length, take, drop, length-append, length-take}
+use lib.ListN.{length, take, drop, length-append}
 use lib.Seq.{take-take}
 use Rattle.codec.specs.Bytes.{part}
 use Rattle.codec.specs.Put.{put}
-use Rattle.codec.proofs.Prelude.{test}
-use Rattle.codec.proofs.PutLaws.{put-length, put-before}
+use Rattle.codec.proofs.PutLaws.{put-length}
 use Rattle.block.specs.declared.block_builder.BlockBuilder.{BlockBuilder}
 use Rattle.block.specs.declared.block_builder.Added.{Added}
 use Rattle.block.specs.Block.{Pair, packed, restartsOf}
@@ -21,20 +20,20 @@ use Rattle.block.proofs.BuilderLaws.{stands-more, added-kept, added-did}
 use Rattle.block.proofs.BuilderCode.{next-bytes, next-restarts}
 use Rattle.block.proofs.CountLaws.{count-entry}
 use Rattle.filter.specs.Filter.{hash}
-use Rattle.filter.specs.FilterBlock.{Filters, noFilters, wait, madeBytes, starts}
-use Rattle.filter.specs.FilterCount.{FilterCount, countWaiting}
+use Rattle.filter.specs.FilterBlock.{Filters, wait}
+use Rattle.filter.specs.FilterCount.{countWaiting}
 use Rattle.filter.proofs.FilterCountLaws.{wait-append, count-wait}
 use Rattle.table.specs.Options.{Options, indexInterval, Addition}
-use Rattle.table.specs.Build.{Building, keyOf, pairOf, written, indexPairs, filtersOf}
+use Rattle.table.specs.Build.{Building, keyOf, pairOf, written}
 use Rattle.table.specs.Runs.{Runs, filtersNow, entriesOf, restartsIn, held, between, overlay, overlaid, FitsRoom}
 use Rattle.table.specs.Counts.{Counts, countsOf}
 use Rattle.builder.specs.declared.table_builder.Builder.{Builder}
 use Rattle.builder.specs.State.{countsIn}
-use Rattle.builder.specs.Steps.{Roomy, Whole, enteredState}
+use Rattle.builder.specs.Steps.{Roomy, enteredState}
 use Rattle.builder.specs.Writes.{EnteredRuns}
 use Rattle.builder.proofs.SizeLaws.{count-after, countable-small}
-use Rattle.builder.proofs.OverlayLaws.{overlay-front, overlay-behind, overlay-of, overlay-put, overlay-first, overlay-at, overlay-long}
-use Rattle.builder.proofs.CloseLaws.{Counted, Rooms, Lens, lens, open-stands, written-is, bytes-is, restarts-is, waiting-is, fits-addable}
+use Rattle.builder.proofs.OverlayLaws.{overlay-behind, overlay-of, overlay-put, overlay-first, overlay-at, overlay-long}
+use Rattle.builder.proofs.CloseLaws.{Counted, Rooms, lens, open-stands, written-is, bytes-is, restarts-is, waiting-is, fits-addable}
 
 -- the building with an addition in the open block
 abbrev pub with : Building → Addition → Building

@@ -1,20 +1,18 @@
 -- Finish, of a state and runs that stand for a table.
-use Prim.Native.Nat.{ℕ, zero, suc, _+_, _*_, _-_, _/_, _^_, _≤_, _<_}
+use Prim.Native.Nat.{ℕ, _+_, _-_, _/_, _^_, _≤_, _<_}
 use mathlib.Core.Path.{_≡_, refl, sym, ap, ap₂, _∙_}
 use mathlib.Core.Logic.{_⊎_, inl, inr}
 use mathlib.Core.List.{List, [], _∷_, _++_, map, append-nil}
-use mathlib.Core.Bool.{Bool, true, false, _&&_, cond}
+use mathlib.Core.Bool.{true}
 use native.Mathlib.Nat.{zero-add}
 use native.Mathlib.Omega.{arith}
-use lib.Dec.{leb}
 use lib.ListN.{length, take, length-append}
 use borrow.Author.Tests.{le-leb}
 use Rattle.codec.proofs.Prelude.{split}
-use Rattle.block.specs.Block.{Pair, packed, restartsOf, blockBytes}
+use Rattle.block.specs.Block.{packed, restartsOf}
 use Rattle.block.specs.Count.{BlockCount, countOf}
 use Rattle.block.specs.Builder.{countIn}
 use Rattle.block.proofs.CountLaws.{count-zero}
-use Rattle.filter.specs.declared.filter_block.Made.{Made}
 use Rattle.filter.specs.FilterBlock.{Filtering, Filters, noFilters, makeFilter, lastFilter, madeBytes, starts, filterBlockOf, filterBlockBytes}
 use Rattle.filter.specs.FilterCount.{FilterCount, filterCountOf, countLast}
 use Rattle.filter.specs.Choice.{choiceOf}
@@ -24,26 +22,25 @@ use Rattle.filter.proofs.FilterCountLaws.{count-last, last-kept}
 use Rattle.table.specs.Checked.{pass}
 use Rattle.table.specs.Options.{Options, indexInterval, Addition}
 use Rattle.table.specs.Build as Build
-use Rattle.table.specs.Build.{Building, pairOf, framed, written, indexPairs, filtersOf, filterBytes, metaPair, metaBytes, indexBytes, untilMeta, untilIndex, untilFooter, metaHandle, indexHandle, footerBytes, table, begin, lastKey, close, closeLast, acceptAll}
+use Rattle.table.specs.Build.{Building, pairOf, framed, written, indexPairs, filtersOf, filterBytes, metaPair, metaBytes, indexBytes, untilMeta, untilIndex, untilFooter, metaHandle, indexHandle, footerBytes, table, begin, close, closeLast, acceptAll}
 use Rattle.table.specs.Runs.{Runs, filtersNow, entriesOf, restartsIn, held, between, finished, overlay, overlaid, FitsRoom, roomOf}
-use Rattle.table.specs.Counts.{countsOf, finishedSize}
+use Rattle.table.specs.Counts.{finishedSize}
 use Rattle.table.proofs.StepLaws as Step
 use Rattle.table.proofs.CountsLaws.{size-finished, no-open, last-filters}
-use Rattle.builder.specs.declared.table_builder.Lengths.{Lengths}
 use Rattle.builder.specs.declared.table_builder.Builder.{Builder}
 use Rattle.builder.specs.declared.table_builder.FilterSizes.{FilterSizes}
 use Rattle.builder.specs.declared.table_builder.Ending.{Ending}
 use Rattle.builder.specs.declared.table_builder.Outcome.the-variants as OutcomeCase
 use Rattle.builder.specs.State.{optionsOf, countsIn, lengthsOf, sane, Stands}
-use Rattle.builder.specs.Steps.{small, Small, Whole, filterCountIn, filtersIn, lastOf, closedState, lastState, earlyOf, lastFilters, endable, EndingIs}
+use Rattle.builder.specs.Steps.{small, Small, filterCountIn, filtersIn, lastOf, closedState, lastState, earlyOf, lastFilters, endable, EndingIs}
 use Rattle.builder.specs.Writes.{LastRuns, LastFilters, filterBlock, metaBlock, EndFits, EndPut, EndRuns}
 use Rattle.builder.specs.Answers.{overState, FinishedIs}
 use Rattle.builder.proofs.SizeLaws as Size
 use Rattle.builder.proofs.DecideLaws.{sane-is, last-short}
 use Rattle.builder.proofs.AddLaws.{early-zero, early-traced}
 use Rattle.builder.proofs.OverlayLaws.{overlay-none, overlay-front, overlay-put, overlay-long, groups-some, starts-append}
-use Rattle.builder.proofs.CloseLaws.{Counted, Rooms, Lens, lens, counting, index-stands, filters-is, filtered-is, made-is, waiting-is, written-is, options-filter, options-interval, made-room, closed-counted, waits-close, closed-all}
-use Rattle.builder.proofs.TraceLaws.{Began, stands-counted, trace-began, trace-fits, trace-small, trace-is-small, trace-sane, last-is}
+use Rattle.builder.proofs.CloseLaws.{Counted, Rooms, lens, counting, index-stands, filters-is, filtered-is, made-is, waiting-is, written-is, options-filter, options-interval, made-room, closed-counted, waits-close, closed-all}
+use Rattle.builder.proofs.TraceLaws.{stands-counted, trace-began, trace-fits, trace-small, trace-is-small, trace-sane, last-is}
 
 -- a list of no length
 none-of : (w : List ℕ) → length w ≡ 0 → w ≡ []

@@ -1,19 +1,17 @@
 -- Bytes at the front of a run, the rest unchanged; and the filters that an offset asks for.
-use Prim.Native.Nat.{ℕ, zero, suc, _+_, _-_, _/_, _≤_, _<_}
+use Prim.Native.Nat.{ℕ, zero, suc, _+_, _-_, _≤_, _<_}
 use mathlib.Core.Path.{_≡_, refl, sym, ap, ap₂, _∙_}
 use mathlib.Core.List.{List, [], _∷_, _++_, append-assoc, append-nil}
-use mathlib.Core.Bool.{Bool, true, false}
-use native.Mathlib.Nat.{zero-add, add-zero, add-assoc}
+use native.Mathlib.Nat.{add-zero}
 use native.Mathlib.Omega.{arith}
-use lib.Dec.{leb}
-use lib.ListN.{length, take, drop, replicate, length-append, length-take, length-drop, take-append-drop}
-use lib.Seq.{take-at, drop-at, drop-drop, drop-append-le, take-append-le}
+use lib.ListN.{length, take, drop, replicate, length-append, length-drop, take-append-drop}
+use lib.Seq.{take-at, drop-at, drop-drop}
 use borrow.Author.Tests.{le-leb, lt-leb}
 use Rattle.codec.specs.Bytes.{part}
 use Rattle.codec.specs.Put.{put}
-use Rattle.codec.proofs.Prelude.{test, split}
+use Rattle.codec.proofs.Prelude.{split}
 use Rattle.codec.proofs.PutLaws.{put-room}
-use Rattle.filter.specs.FilterBlock.{Filtering, Filters, filterFor, makeFilter, makeFilters, filtersUpTo, lastFilter, madeBytes, starts}
+use Rattle.filter.specs.FilterBlock.{Filtering, Filters, filterFor, makeFilter, makeFilters, madeBytes, starts}
 use Rattle.filter.specs.Make.{groupsUpTo}
 use Rattle.table.specs.Runs.{overlay}
 

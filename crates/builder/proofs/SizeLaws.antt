@@ -1,25 +1,25 @@
 -- The counts of a state that a table within the limit can have: how large they get, and that they move as the definitions say.
-use Prim.Native.Nat.{ℕ, zero, suc, _+_, _*_, _/_, _^_, _-_, _≤_, _<_, min, max}
+use Prim.Native.Nat.{ℕ, zero, suc, _+_, _*_, _/_, _^_, _-_, _≤_, _<_, min}
 use mathlib.Core.Path.{_≡_, refl, sym, ap, ap₂, _∙_}
-use mathlib.Core.List.{List, []}
-use mathlib.Core.Bool.{Bool, true, false, _&&_, cond}
+use mathlib.Core.List.{List}
+use mathlib.Core.Bool.{true}
 use native.Mathlib.Nat.{mul-le-mul-left, zero-add}
 use native.Mathlib.Numerals.{add-one}
 use native.Mathlib.Omega.{arith}
 use lib.Dec.{eqb, leb, ltb}
-use lib.ListN.{length, take, length-replicate}
+use lib.ListN.{length, take}
 use borrow.Author.Tests.{le-leb, lt-ltb, le-ltb, leb-true, eqb-false, eqb-true}
 use Rattle.codec.specs.Varint.{varintBytes, varintBytesF}
 use Rattle.codec.specs.Put.{put}
 use Rattle.codec.proofs.Prelude.{test, split, both}
-use Rattle.codec.proofs.PutLaws.{put-length, put-front}
+use Rattle.codec.proofs.PutLaws.{put-front}
 use Rattle.codec.proofs.VarintLaws.{varint-bytes-length}
 use Rattle.block.specs.declared.block_builder.BlockBuilder.{BlockBuilder}
 use Rattle.block.specs.declared.block_builder.Counted.{Counted}
 use Rattle.block.specs.Block.{since, sharing}
 use Rattle.block.specs.Formed.{within, bloomName}
 use Rattle.block.specs.Count.{BlockCount, noEntries, varintSize, entrySize, countEntry, countSize}
-use Rattle.block.specs.Builder.{countIn, newBuilder, builderWith, builderAfter, countable, countsFit, CountedIs}
+use Rattle.block.specs.Builder.{countIn, newBuilder, builderWith, builderAfter, countable, CountedIs}
 use Rattle.block.proofs.BuilderLaws.{counting-none}
 use Rattle.block.proofs.BuilderCode.{fits-all}
 use Rattle.block.proofs.CountLaws.{count-none}
@@ -31,13 +31,11 @@ use Rattle.filter.specs.FilterCount.{FilterCount, filterBytesOf, countMade, cou
 use Rattle.filter.specs.Choice.{choiceOf}
 use Rattle.table.specs.Options.{Options, indexInterval, optionsFit, filteringFits}
 use Rattle.table.specs.Build.{metaName}
-use Rattle.table.specs.Counts.{Counts, handleSize, countClose, countCloseLast, metaSize, finishedSize}
+use Rattle.table.specs.Counts.{handleSize, countClose, countCloseLast, metaSize, finishedSize}
 use Rattle.table.proofs.AcceptLaws.{within-parts}
-use Rattle.builder.specs.declared.table_builder.Options as Given
-use Rattle.builder.specs.declared.table_builder.Lengths.{Lengths}
 use Rattle.builder.specs.declared.table_builder.Builder.{Builder}
 use Rattle.builder.specs.declared.table_builder.FilterSizes.{FilterSizes}
-use Rattle.builder.specs.State.{optionsOf, countsIn, sane, sameLengths, sizesFit}
+use Rattle.builder.specs.State.{optionsOf, countsIn}
 use Rattle.builder.specs.Steps.{small, Small, filterCountIn, filtersIn, openSize, lastOf, endsAt, filtersThen, closedState, Roomy, enteredState, lastState, metaLen, Whole}
 
 -- ---- one entry more

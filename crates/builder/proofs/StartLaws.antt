@@ -1,14 +1,11 @@
 -- What start answers, and that what it gives stands for nothing added yet.
 use Prim.Native.Nat.{ℕ}
 use mathlib.Core.Path.{_≡_, refl, sym, ap, _∙_}
-use mathlib.Core.List.{List, []}
 use mathlib.Core.Bool.{Bool, true, false, _&&_}
 use native.Mathlib.Omega.{arith}
-use lib.ListN.{length, length-replicate}
-use Rattle.codec.proofs.Prelude.{test, both}
-use Rattle.block.specs.Builder.{newBuilder, Counting}
+use lib.ListN.{length-replicate}
+use Rattle.block.specs.Builder.{newBuilder}
 use Rattle.block.specs.Block.{packed, restartsOf}
-use Rattle.block.specs.Count.{noEntries}
 use Rattle.block.proofs.BuilderLaws.{counting-none}
 use Rattle.block.proofs.CountLaws.{count-none}
 use Rattle.filter.specs.Choice.{choiceOf}
@@ -17,7 +14,7 @@ use Rattle.table.specs.Checked.{Checked, pass, refuse, _>>=_, ask}
 use Rattle.table.specs.Options.{Options, indexInterval, optionsFit}
 use Rattle.table.specs.Build.{begin, written, indexPairs, filtersOf}
 use Rattle.table.specs.Runs.{Runs, filtersNow, entriesOf, restartsIn, held, between, overlay, overlaid, startOf}
-use Rattle.table.specs.Counts.{Counts, countsOf, noCounts}
+use Rattle.table.specs.Counts.{noCounts}
 use Rattle.table.proofs.CheckedLaws.{refuse-pass}
 use Rattle.table.proofs.CountsLaws.{counts-begin}
 use Rattle.builder.specs.declared.table_builder.Answer.the-variants as AnswerCase
@@ -27,11 +24,6 @@ use Rattle.builder.specs.State.{optionsOf, countsIn, lengthsOf, runsFit,
 use Rattle.builder.specs.Answers.{answerOf, startState, StartedIs}
 
 -- tests one after the other that refuse with one number are one test
-ask-both : (n : ℕ) (s t : Bool) → ask n s >>= (λ u. ask n t) ≡ ask n (s && t)
-unfolding ask _>>=_
-ask-both n true t = refl
-ask-both n false t = refl
-
 module _ (n : ℕ) where
   ask-four : (s t u v : Bool) → ask n s >>= (λ x. ask n t >>= (λ y. ask n u >>= (λ z. ask n v))) ≡ ask n (s && (t && (u && v)))
   unfolding ask _>>=_

@@ -1,26 +1,26 @@
 -- A state and runs that stand for a table: an addition is decided as the definitions say, and leaves what they say.
-use Prim.Native.Nat.{ℕ, zero, suc, _+_, _/_, _^_, _≤_, _<_, min}
+use Prim.Native.Nat.{ℕ, _+_, _/_, _≤_, min}
 use mathlib.Core.Path.{_≡_, refl, sym, ap, ap₂, _∙_}
 use mathlib.Core.List.{List, [], _∷_, _++_, map}
-use mathlib.Core.Bool.{Bool, true, false, _&&_, cond}
+use mathlib.Core.Bool.{Bool, true, false, _&&_}
 use native.Mathlib.Omega.{arith}
-use lib.Dec.{T, leb, ltb, eqb}
-use lib.ListN.{length, take, length-append}
+use lib.Dec.{leb, ltb, eqb}
+use lib.ListN.{length}
 use borrow.Author.Tests.{le-leb, leb-true, eq-eqb}
 use Rattle.codec.proofs.Prelude.{test, both, is-true, true-is}
 use Rattle.keys.specs.Order.{below, separator}
 use Rattle.keys.proofs.KeyLaws.{internal-length}
-use Rattle.block.specs.Block.{Pair, lastKeyOf, sinceAll}
+use Rattle.block.specs.Block.{Pair, sinceAll}
 use Rattle.block.specs.Formed.{within}
 use Rattle.block.specs.Count.{BlockCount, countOf, countSize}
 use Rattle.block.specs.Builder.{countIn, builderAfter, builderWith}
 use Rattle.block.proofs.CountLaws.{count-zero}
 use Rattle.filter.specs.FilterBlock.{Filtering, unfiltered, bitsPerKey}
 use Rattle.table.specs.Checked.{Checked, pass, refuse, _>>=_, ask}
-use Rattle.table.specs.Options.{Options, indexInterval, optionsFit, filteringFits, emptySize, tableLimit, Addition, additionFits}
+use Rattle.table.specs.Options.{Options, indexInterval, optionsFit, emptySize, tableLimit, Addition, additionFits}
 use Rattle.table.specs.Build.{Building, keyOf, pairOf, chunkBytes, begin, lastKey, indexPairs, close, closeBefore, add, finish, above, accept, acceptAll}
 use Rattle.table.specs.Runs.{Runs, between, finished, overlay, overlaid, FitsRoom, roomOf, startOf}
-use Rattle.table.specs.Counts.{Counts, countsOf, finishedSize}
+use Rattle.table.specs.Counts.{finishedSize}
 use Rattle.table.proofs.CheckedLaws.{passing, asking, ask-pass, pass-same}
 use Rattle.table.proofs.AcceptLaws.{within-parts}
 use Rattle.table.proofs.CountsLaws.{chunk-size, size-finished}
@@ -29,12 +29,11 @@ use Rattle.builder.specs.declared.table_builder.Lengths.{Lengths}
 use Rattle.builder.specs.declared.table_builder.Builder.{Builder}
 use Rattle.builder.specs.State.{optionsOf, countsIn, lengthsOf, sameLengths, sizesFit, sane, Stands}
 use Rattle.builder.specs.Steps.{small, Small, Whole, Roomy, openSize, lastOf, closedState, enteredState, aboveLast, cutOf, sepOf, midOf, nextOf, fitsOf, decideOf}
-use Rattle.builder.specs.Writes.{ClosedRuns, CutRuns, EnteredRuns}
 use Rattle.builder.proofs.SizeLaws.{since-most, small-is}
 use Rattle.builder.proofs.DecideLaws.{sep-most, last-short, mid-not, mid-cut, mid-roomy, above-none, above-some}
 use Rattle.builder.proofs.OverlayLaws.{overlay-front, overlay-of, overlay-long}
-use Rattle.builder.proofs.CloseLaws.{Counted, Rooms, Lens, lens, counting, index-counting, options-interval, closed-counted, closed-all}
-use Rattle.builder.proofs.EnterLaws.{with, entered-counted, enter-fits, entered-all}
+use Rattle.builder.proofs.CloseLaws.{Counted, Rooms, lens, counting, index-counting, options-interval, closed-counted}
+use Rattle.builder.proofs.EnterLaws.{entered-counted}
 
 -- ---- what start asked for
 

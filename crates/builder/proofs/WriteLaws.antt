@@ -8,7 +8,7 @@ use lib.ListN.{length, take, set, length-append}
 use Rattle.codec.specs.Bytes.{part}
 use Rattle.codec.specs.Checksum.{trailer}
 use Rattle.codec.specs.Put.{put, Wrote}
-use Rattle.codec.specs.Varint.{varintBytes, handleBytes}
+use Rattle.codec.specs.Varint.{handleBytes}
 use Rattle.codec.specs.declared.put.Written.{Written}
 use Rattle.codec.specs.declared.put.Written.the-variants.{At, NoRoom}
 use Rattle.codec.proofs.PutLaws.{put-length, put-front, put-sets, put-full, wrote-next, wrote-never}

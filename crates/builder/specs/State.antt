@@ -2,15 +2,15 @@
 use Prim.Native.Nat.{ℕ, _+_, _/_, _≤_}
 use mathlib.Core.Path.{_≡_}
 use mathlib.Core.List.{List}
-use mathlib.Core.Bool.{Bool, true, false, _&&_}
+use mathlib.Core.Bool.{Bool, false, _&&_}
 use lib.Dec.{eqb, leb}
 use lib.ListN.{length}
-use Rattle.block.specs.Builder.{countIn, newBuilder, Counting}
+use Rattle.block.specs.Builder.{countIn, newBuilder}
 use Rattle.filter.specs.FilterBlock.{Filtering}
 use Rattle.filter.specs.Choice.{choiceOf}
 use Rattle.filter.specs.declared.filter.Filter.the-variants as FilterCase
-use Rattle.table.specs.Options.{Options, indexInterval, optionsFit, emptySize, Addition}
-use Rattle.table.specs.Build.{Building, pairOf, indexPairs}
+use Rattle.table.specs.Options.{Options, indexInterval, optionsFit, emptySize}
+use Rattle.table.specs.Build.{Building}
 use Rattle.table.specs.Checked.{pass}
 use Rattle.table.specs.Runs.{Runs, roomOf, startOf, between, overlaid}
 use Rattle.table.specs.Counts.{Counts, countsOf}

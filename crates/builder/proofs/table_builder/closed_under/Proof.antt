@@ -1,9 +1,8 @@
 -- `builder::table_builder::closed_under` meets its contract.
 use mathlib.Core.Path.{sym, ap, _∙_}
-use mathlib.Core.List.{List}
 use Prim.Native.Nat.{ℕ, min}
 use native.Mathlib.Omega.{arith}
-use lib.ListN.{length, take}
+use lib.ListN.{take}
 use lib.Seq.{length-take-le}
 use Rattle.block.proofs.BuilderCode.{front}
 use Rattle.builder.specs.Steps.{closedState}

@@ -1,5 +1,4 @@
 -- `builder::table_builder::entered` meets its contract.
-use native.Mathlib.Omega.{arith}
 use Rattle.builder.proofs.SizeLaws.{entered-is}
 use borrow.Author.Needs.{needs}
 use Rattle.builder.proofs.table_builder.entered.Statement.{statement}

@@ -1,6 +1,5 @@
 -- `builder::table_builder::last_below` meets its contract.
 use mathlib.Core.Path.{sym}
-use native.Mathlib.Omega.{arith}
 use lib.Seq.{length-take-le}
 use borrow.Author.Needs.{needs}
 use Rattle.builder.proofs.table_builder.last_below.Statement.{statement}

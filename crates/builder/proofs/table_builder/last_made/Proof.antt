@@ -1,5 +1,4 @@
 -- `builder::table_builder::last_made` meets its contract.
-use native.Mathlib.Omega.{arith}
 use mathlib.Core.Path.{_∙_}
 use Rattle.filter.specs.Choice.{choiceOf}
 use Rattle.builder.specs.Steps.{filterCountIn}

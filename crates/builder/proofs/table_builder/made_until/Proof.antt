@@ -2,7 +2,6 @@
 use native.Mathlib.Omega.{arith}
 use mathlib.Core.Path.{ap, _∙_}
 use Prim.Native.Nat.{ℕ, _+_}
-use Rattle.filter.specs.FilterCount.{FilterCount}
 use Rattle.filter.specs.Choice.{choiceOf}
 use Rattle.builder.specs.Steps.{filterCountIn}
 use Rattle.builder.proofs.SizeLaws.{made-no, made-yes, more-bytes}

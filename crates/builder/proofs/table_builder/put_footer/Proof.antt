@@ -1,7 +1,6 @@
 -- `builder::table_builder::put_footer` meets its contract.
 use mathlib.Core.Path.{refl, ap, _∙_}
 use native.Mathlib.Omega.{arith}
-use mathlib.Core.List.{List}
 use Rattle.codec.specs.Put.{put}
 use Rattle.codec.specs.Varint.{handleBytes}
 use Rattle.table.specs.Table.{magic}

@@ -1,7 +1,7 @@
 -- `builder::table_builder::put_separator` meets its contract.
 use mathlib.Core.Path.{sym}
 use native.Mathlib.Omega.{arith}
-use lib.ListN.{length, take, length-take}
+use lib.ListN.{take, length-take}
 use lib.Seq.{length-take-le}
 use Rattle.builder.proofs.DecideLaws.{sep-never, sep-put}
 use borrow.Author.Needs.{needs}

@@ -1,7 +1,7 @@
 -- `builder::table_builder::Builder::add` meets its contract.
-use mathlib.Core.Path.{sym, _∙_}
+use mathlib.Core.Path.{sym}
 use native.Mathlib.Omega.{arith}
-use lib.ListN.{length, take, length-take}
+use lib.ListN.{length-take}
 use lib.Seq.{length-take-le}
 use Rattle.table.specs.Options.{Addition}
 use Rattle.table.specs.Build.{keyOf}
