@@ -1,5 +1,5 @@
 -- What the block builder's calls make of the block that it builds.
-use Prim.Native.Nat.{ℕ, _+_, _^_, _≤_, _<_}
+use Prim.Native.Nat.{ℕ, _+_, _≤_}
 use mathlib.Core.Path.{_≡_, refl, sym, ap, ap₂, _∙_}
 use mathlib.Core.List.{List, [], _∷_, _++_}
 use mathlib.Core.Bool.{true, false}
@@ -7,21 +7,20 @@ use native.Mathlib.Omega.{arith}
 use native.Mathlib.Nat.{zero-add}
 use lib.Dec.{leb, eqb}
 use lib.ListN.{length, take, length-replicate}
-use borrow.Author.Tests.{lt-ltb, le-leb, eqb-false, leb-true}
+use borrow.Author.Tests.{eqb-false, leb-true}
 use Rattle.codec.specs.Bytes.{part}
 use Rattle.codec.specs.Put.{room, put, Wrote}
 use Rattle.codec.specs.declared.put.Written.{Written}
 use Rattle.codec.proofs.Prelude.{test, split, both}
 use Rattle.codec.proofs.PutLaws.{put-length, put-front, put-behind, Kept, kept-same, kept-put, wrote-behind}
 use Rattle.block.specs.declared.block_builder.BlockBuilder.{BlockBuilder}
-use Rattle.block.specs.declared.block_builder.Counted.{Counted}
 use Rattle.block.specs.declared.block_builder.Added.{Added}
 use Rattle.block.specs.Block.{Pair, lastKeyOf, since, sinceAll, packed, restartsOf, tailBytes, blockBytes}
 use Rattle.block.specs.Count.{BlockCount, countOf, noEntries, countEntry, countSize}
-use Rattle.block.specs.Builder.{countIn, newBuilder, builderWith, builderAfter, countable, CountedIs, isRestart, nextBytes, nextRestart, addable, AddedIs, Counting, Stands}
+use Rattle.block.specs.Builder.{countIn, newBuilder, builderWith, builderAfter, countable, isRestart, nextBytes, nextRestart, addable, AddedIs, Counting, Stands}
 use Rattle.block.proofs.BuildLaws.{packed-append, packed-one, restarts-append, restarts-one}
 use Rattle.block.proofs.CountLaws.{count-none, count-entry, count-size}
-use Rattle.block.proofs.BuilderCode.{fits-all, room-mark, next-bytes, next-restarts, addable-room}
+use Rattle.block.proofs.BuilderCode.{next-bytes, next-restarts}
 
 -- ---- counts
 
@@ -51,14 +50,6 @@ module _ {i : ℕ} {ps : List Pair} {b : BlockBuilder} (s : Counting i ps b) (p 
         counts = counts-with b c k ∙ after-is;
         whole = put-length (b .last) 0 (p .key) ∙ s .whole;
       }
-
-  -- a pair that was counted
-  pub counting-more : {r : Counted} → CountedIs b (p .key) (length (p .value)) r → r .fits ≡ true → Counting i (ps ++ (p ∷ [])) (r .block)
-  unfolding countable
-  counting-more {r} h f =
-      let t : countable b (p .key) (length (p .value)) ≡ true = sym (h .fits) ∙ f in
-      let e : r .block ≡ builderAfter b (p .key) (length (p .value)) = h .block ∙ rw t in
-      rw e (counting-after (leb-true (length (p .key)) 1032 (both _ _ t .0)))
 
 -- ---- adding, of any builder at all
 
@@ -165,22 +156,3 @@ since-at-most i n [] h k = k
 since-at-most i n (p ∷ ps) h k =
     let more : since i n ≤ i = test (eqb n i) (λ t. rw (t, since) h) (λ t. let ne = eqb-false n i t in rw (t, since) (split n i (λ l. l) (λ g. absurd (ne (omega arith))))) in
     since-at-most i (since i n) ps h more
-
--- with a key of at most 1,032 bytes a pair can be counted while its counts have 64 bits
-pub counting-fits : {i : ℕ} {ps : List Pair} {b : BlockBuilder} → Counting i ps b → (p : Pair) → 1 ≤ i → i < 2 ^ 64 → length (p .key) ≤ 1032
-    → countOf i (ps ++ (p ∷ [])) .bytes < 2 ^ 64 → countOf i (ps ++ (p ∷ [])) .restarts < 2 ^ 64
-    → countable b (p .key) (length (p .value)) ≡ true
-unfolding countable
-counting-fits {i} {ps} s p h j k x y =
-    let z : countOf i (ps ++ (p ∷ [])) .since ≤ i = unfold countOf in since-at-most i i (ps ++ (p ∷ [])) h (omega arith) in
-    rw (le-leb (length (p .key)) 1032 k, after-is s p) (fits-all (countOf i (ps ++ (p ∷ []))) x y (omega arith))
-
--- and it fits where both runs have room up to these counts, and a restart has 32 bits
-pub stands-fits : {i : ℕ} {ps : List Pair} {b : BlockBuilder} {at : ℕ} {out restarts : List ℕ} → Stands i ps b at out restarts → (p : Pair) → 1 ≤ i → i < 2 ^ 64
-    → length (p .key) ≤ 1032 → length out < 2 ^ 64 → length restarts < 2 ^ 64 → b .bytes < 2 ^ 32
-    → at + countOf i (ps ++ (p ∷ [])) .bytes ≤ length out → countOf i (ps ++ (p ∷ [])) .restarts ≤ length restarts
-    → addable b at out restarts (p .key) (p .value) ≡ true
-stands-fits {i} {ps} {b} {at} {out} {restarts} s p h j k lo lr m x y =
-    let c = countOf i (ps ++ (p ∷ [])) in
-    addable-room b at out restarts (p .key) (p .value) (counting-fits (s .counting) p h j k (omega arith) (omega arith))
-    ∙ rw (after-is (s .counting) p) (sym (room-mark (length out) at (c .bytes) (length restarts) (c .restarts) (b .bytes) x y) ∙ lt-ltb (b .bytes) (2 ^ 32) m)
