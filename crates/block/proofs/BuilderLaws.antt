@@ -7,11 +7,11 @@ use native.Mathlib.Omega.{arith}
 use native.Mathlib.Nat.{zero-add}
 use lib.Dec.{leb, eqb}
 use lib.ListN.{length, take, length-replicate}
-use borrow.Author.Tests.{eqb-false, leb-true}
+use borrow.Author.Tests.{leb-true}
 use Rattle.codec.specs.Bytes.{part}
 use Rattle.codec.specs.Put.{room, put, Wrote}
 use Rattle.codec.specs.declared.put.Written.{Written}
-use Rattle.codec.proofs.Prelude.{test, split, both}
+use Rattle.codec.proofs.Prelude.{test, both}
 use Rattle.codec.proofs.PutLaws.{put-length, put-front, put-behind, Kept, kept-same, kept-put, wrote-behind}
 use Rattle.block.specs.declared.block_builder.BlockBuilder.{BlockBuilder}
 use Rattle.block.specs.declared.block_builder.Added.{Added}
@@ -147,12 +147,3 @@ module _ {i : ℕ} {ps : List Pair} {b : BlockBuilder} {at : ℕ} {out restarts 
   stands-finish h =
       let n : b .bytes ≡ length (packed i i [] ps) = ap (λ (c : BlockCount). c .bytes) (s .counting .counts) in
       wrote-behind (packed i i [] ps) (rw n at (s .entries)) (rw (s .marks, n) at h)
-
--- ---- what it takes to fit
-
-since-at-most : (i n : ℕ) (ps : List Pair) → 1 ≤ i → n ≤ i → sinceAll i n ps ≤ i
-unfolding sinceAll since
-since-at-most i n [] h k = k
-since-at-most i n (p ∷ ps) h k =
-    let more : since i n ≤ i = test (eqb n i) (λ t. rw (t, since) h) (λ t. let ne = eqb-false n i t in rw (t, since) (split n i (λ l. l) (λ g. absurd (ne (omega arith))))) in
-    since-at-most i (since i n) ps h more

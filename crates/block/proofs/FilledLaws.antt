@@ -27,7 +27,8 @@ use Rattle.block.specs.declared.block.Kind as KindEnum
 use Rattle.block.specs.declared.block.Kind.the-variants as KindCase
 use Rattle.block.specs.declared.block.RowsRead.the-variants as RowsCase
 use Rattle.block.specs.Block.{Pair, Entry, entry, next, entriesF, pairsOf, restartsStand, firstIsZero, Block, block}
-use Rattle.block.specs.Formed.{Kind, bloomName, dataBlock, indexBlock, metaBlock, within, isHandle, entryFits, all, enough, wellFormed, isFormed}
+use Rattle.codec.specs.Limits.{within}
+use Rattle.block.specs.Formed.{Kind, bloomName, dataBlock, indexBlock, metaBlock, isHandle, entryFits, all, enough, wellFormed, isFormed}
 use Rattle.block.specs.Steps.{rowsOf, rowsAnswer, Laid, restartAt, entriesFrom, marks, filledFrom, Onward}
 use Rattle.block.specs.Search.{kindOf, entryAnswer}
 use Rattle.block.proofs.ReadLaws.{entry-start}

@@ -12,7 +12,8 @@ use Rattle.codec.proofs.MaybeLaws.{getting, giving, gets, gives}
 use Rattle.keys.specs.Order.{pointOf, below}
 use Rattle.keys.proofs.OrderLaws.{_≺_, ≺-trans}
 use Rattle.block.specs.Block.{Pair, lastKeyOf, Entry, pairsOf, Block, block}
-use Rattle.block.specs.Formed.{Kind, dataBlock, indexBlock, metaBlock, within, entryFits, all, enough, wellFormed, rises}
+use Rattle.codec.specs.Limits.{within}
+use Rattle.block.specs.Formed.{Kind, dataBlock, indexBlock, metaBlock, entryFits, all, enough, wellFormed, rises}
 use Rattle.block.specs.Search.{readable}
 use Rattle.block.proofs.ReadLaws.{EntryBefore}
 

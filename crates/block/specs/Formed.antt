@@ -6,6 +6,7 @@ use mathlib.Core.Option.{Option, none, some}
 use lib.Dec.{leb}
 use lib.ListN.{length}
 use Rattle.codec.specs.Bytes.{sameBytes}
+use Rattle.codec.specs.Limits.{within}
 use Rattle.codec.specs.Maybe.{_>>=_, ask}
 use Rattle.codec.specs.Varint.{oneHandle}
 use Rattle.block.specs.Block.{Pair, Entry, pairsOf, block}
@@ -15,10 +16,6 @@ pub data Kind : Type 0 where
   dataBlock : Kind
   indexBlock : Kind
   metaBlock : Kind
-
--- from low to high
-unfoldable pub within : ℕ → ℕ → ℕ → Bool
-within low high x = leb low x && leb x high
 
 -- one handle and nothing more
 unfoldable pub isHandle : List ℕ → Bool

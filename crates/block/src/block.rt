@@ -8,16 +8,17 @@ ghost use lib.ListN.{length, take, drop};
 ghost use Rattle.codec.specs.Bytes.{numbers, sameBytes};
 ghost use Rattle.keys.specs.Order.{isLess, pointOf, byPoint};
 ghost use Rattle.block.specs.Block.{head, entry};
-ghost use Rattle.block.specs.Formed.{isFormed, isHandle, within, bloomName, entryFits, enough};
-ghost use Rattle.block.specs.Search.{kindOf, entryAnswer, keyLeft, seekIn, firstIn, placeIn, atIn, nextIn, inOrder, anyOrder, Said};
+ghost use Rattle.block.specs.Formed.{isFormed, isHandle, bloomName, entryFits, enough};
+ghost use Rattle.block.specs.Search.{kindOf, entryAnswer, keyLeft, seekIn, firstIn, placeIn, nextIn, inOrder, anyOrder, Said};
 ghost use Rattle.block.specs.declared.block.Which.{Which};
 ghost use Rattle.block.specs.Steps.{headAfter, headAnswer, FreshAt, rowsOf, rowsAnswer, Laid, restartAt, marks, filledFrom, Passes, Handed, Told, From, Probed};
 use codec::blockhandle::OneHandle;
 use codec::fixed::U32Read;
+use codec::limits;
+use codec::limits::least;
 use codec::put::Written;
 use codec::varint::VarintRead;
 use keys::cmp::Ordering;
-use keys::cmp::least;
 
 pub enum Kind {
     Data,
@@ -276,16 +277,6 @@ fn is_handle(s: &[u8]) -> bool
     }
 }
 
-// Whether a key of n bytes has the length that keys have: from low to 1,032 bytes.
-fn key_fits(n: usize, low: usize) -> bool
-    ensures { λ r. ⌜ r ≡ within low 1032 n ⌝ }
-{
-    if n < low {
-        return false;
-    }
-    n <= 1032
-}
-
 // Whether restart j of a block is a place.
 fn marked(s: &[u8], end: usize, count: usize, j: usize, at: usize) -> bool
     requires { ⌜ end + 4 * count + 4 ≤ length (now s) ⌝ }
@@ -330,21 +321,21 @@ fn in_limits(kind: Kind, key: &[u8], value: &[u8]) -> bool
 {
     match kind {
         Kind::Data => {
-            if key_fits(key.len(), 9) {
+            if limits::within(9, 1032, key.len()) {
                 value.len() <= 32768
             } else {
                 false
             }
         }
         Kind::Index => {
-            if key_fits(key.len(), 9) {
+            if limits::within(9, 1032, key.len()) {
                 is_handle(value)
             } else {
                 false
             }
         }
         Kind::Metaindex => {
-            if key_fits(key.len(), 1) {
+            if limits::within(1, 1032, key.len()) {
                 if is_bloom(key) {
                     is_handle(value)
                 } else {
@@ -579,8 +570,8 @@ fn walk(d: &[u8], from: usize, at: usize, which: Which, key: &mut [u8]) -> Found
     }
 }
 
-// The same in a whole block.
-fn by_place(s: &[u8], at: usize, which: Which, key: &mut [u8]) -> Found
+// The entry that starts at a place, or the one after it; no place where no entry starts there.
+pub fn by_place(s: &[u8], at: usize, which: Which, key: &mut [u8]) -> Found
     ensures { λ r. ⌜ Said (now (s .entry)) (placeIn which at) anyOrder (now (key .entry)) r (now (key .exit)) ⌝ }
 {
     match layout(s) {
@@ -593,20 +584,6 @@ fn by_place(s: &[u8], at: usize, which: Which, key: &mut [u8]) -> Found
             walk(&s[..end], from, at, which, key)
         }
     }
-}
-
-// The entry that starts at a place.
-pub fn current(s: &[u8], at: usize, key: &mut [u8]) -> Found
-    ensures { λ r. ⌜ Said (now (s .entry)) (atIn at) anyOrder (now (key .entry)) r (now (key .exit)) ⌝ }
-{
-    by_place(s, at, Which::Here, key)
-}
-
-// The entry after the one that starts at a place.
-pub fn next(s: &[u8], at: usize, key: &mut [u8]) -> Found
-    ensures { λ r. ⌜ Said (now (s .entry)) (nextIn at) anyOrder (now (key .entry)) r (now (key .exit)) ⌝ }
-{
-    by_place(s, at, Which::After, key)
 }
 
 // Whether a key is below a target.

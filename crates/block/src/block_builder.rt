@@ -14,12 +14,12 @@ ghost use Rattle.block.specs.Builder.{countIn, newBuilder, builderWith, 
 ghost use Rattle.block.specs.Plan.{planOf, roomFor};
 use codec::fixed::write_u32;
 use codec::fixed::write_u32s;
+use codec::limits::least;
 use codec::put::Written;
 use codec::put::put_bytes;
 use codec::varint::varint_len;
 use codec::varint::write_varint;
 use keys::cmp::common_len;
-use keys::cmp::least;
 
 // The largest number.
 const MOST: usize = 18446744073709551615;

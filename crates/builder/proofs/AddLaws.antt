@@ -20,7 +20,7 @@ use Rattle.table.specs.Build.{Building, keyOf, begin, closeBefore, add, finish,
 use Rattle.table.proofs.CheckedLaws.{refuse-pass}
 use Rattle.table.specs.Runs.{Runs, between, overlaid, FitsRoom, roomOf}
 use Rattle.table.proofs.AcceptLaws.{within-parts}
-use Rattle.block.specs.Formed.{within}
+use Rattle.codec.specs.Limits.{within}
 use Rattle.table.proofs.SufficeLaws.{runs-suffice}
 use Rattle.builder.specs.declared.table_builder.Answer.the-variants as AnswerCase
 use Rattle.builder.specs.declared.table_builder.Lengths.{Lengths}

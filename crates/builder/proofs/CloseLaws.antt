@@ -13,6 +13,8 @@ use Rattle.codec.specs.Checksum.{trailer}
 use Rattle.codec.specs.Put.{room, put}
 use Rattle.codec.specs.Varint.{handleBytes}
 use Rattle.codec.proofs.PutLaws.{put-put, put-behind, put-length}
+use Rattle.codec.proofs.TrailerLaws.{trailer-length}
+use Rattle.codec.proofs.VarintLaws.{handle-long}
 use Rattle.block.specs.declared.block_builder.BlockBuilder.{BlockBuilder}
 use Rattle.block.specs.declared.block_builder.Added.{Added}
 use Rattle.block.specs.Block.{Pair, packed, restartsOf}
@@ -27,11 +29,10 @@ use Rattle.filter.specs.FilterCount.{FilterCount, filterCountOf}
 use Rattle.filter.specs.Choice.{choiceOf}
 use Rattle.filter.specs.Make.{groupsUpTo, roomFor, MadeFilters}
 use Rattle.filter.proofs.FilterBlockLaws.{made-append, starts-length}
-use Rattle.table.specs.Options.{Options, indexInterval}
+use Rattle.table.specs.Options.{Options, indexInterval, tableLimit}
 use Rattle.table.specs.Build.{Chunk, Building, pairOf, framed, chunkBytes, written, endOf, indexPairs, filtersOf, close}
 use Rattle.table.specs.Runs.{Runs, filtersNow, entriesOf, restartsIn, held, between, overlay, overlaid, FitsRoom}
 use Rattle.table.specs.Counts.{Counts, countsOf, countClose, handleSize}
-use Rattle.codec.proofs.TrailerLaws.{trailer-length}
 use Rattle.table.proofs.FrameLaws.{framed-length}
 use Rattle.table.proofs.StepLaws.{written-append, index-append, filters-append}
 use Rattle.table.proofs.CountsLaws.{chunk-size, counts-close}
@@ -40,8 +41,8 @@ use Rattle.builder.specs.State.{optionsOf, countsIn}
 use Rattle.builder.specs.Steps.{Small, Whole, openSize, endsAt, closedState}
 use Rattle.builder.specs.Writes.{tailedOut, sealedOut, ClosedRuns}
 use Rattle.builder.proofs.SizeLaws.{closed-counts, index-countable}
-use Rattle.builder.proofs.WriteLaws.{handle-most}
-use Rattle.builder.proofs.OverlayLaws.{overlay-none, overlay-front, overlay-of, overlay-put, overlay-first, overlay-same, filters-until, waits-until, starts-append}
+use Rattle.table.proofs.OverlayLaws.{overlay-none, overlay-front, overlay-of, overlay-put, overlay-first, overlay-same}
+use Rattle.builder.proofs.GroupLaws.{filters-until, waits-until, starts-append}
 
 -- ---- a state that counts a table being built
 
@@ -54,7 +55,7 @@ pub record Counted (o : Options) (b : Building) (s : Builder) : Type 0 where
 
 -- runs that are long enough for a room
 pub record Rooms (room : ℕ) (r : Runs) : Type 0 where
-  pub limit : room ≤ 16777216
+  pub limit : room ≤ tableLimit
   pub out : room ≤ length (r .out)
   pub index : room ≤ length (r .index)
   pub filters : room ≤ length (r .filters)
@@ -100,6 +101,10 @@ module _ {o : Options} {b : Building} {s : Builder} (h : Counted o b s) where
   pub bytes-is : s .pending .bytes ≡ length (packed (o .interval) (o .interval) [] ps)
   unfolding countIn countOf
   bytes-is = ap (λ (c : BlockCount). c .bytes) (counting .counts)
+
+  pub open-size : openSize s ≡ length (chunkBytes o (b .openBlock))
+  unfolding openSize
+  open-size = ap countSize (counting .counts) ∙ sym (chunk-size o (b .openBlock))
 
   pub restarts-is : s .pending .restarts ≡ length (restartsOf (o .interval) (o .interval) [] 0 ps)
   unfolding countIn countOf
@@ -228,10 +233,6 @@ module _ {o : Options} {b : Building} {s : Builder} (h : Counted o b s) (m : Sma
   abbrev chunk : Chunk
   chunk = record { additions = b .openBlock; key = key }
 
-  size-is : openSize s ≡ length (chunkBytes o (b .openBlock))
-  unfolding openSize
-  size-is = ap countSize (counting h .counts) ∙ sym (chunk-size o (b .openBlock))
-
   -- the output
   out-is : between o d .out ≡ written o (b .closed) ++ framed (chunkBytes o (b .openBlock))
   unfolding between held close entriesOf packed written
@@ -252,7 +253,7 @@ module _ {o : Options} {b : Building} {s : Builder} (h : Counted o b s) (m : Sma
       let y = written-is h in
       let fit : at + length e ≤ length out = omega arith in
       let t : tailedOut out at (s .pending) rs ≡ put out at e = unfold tailedOut chunkBytes in stands-finish st (record { said = refl; left = refl }) .left in
-      let z : countSize (countIn (s .pending)) ≡ length e = unfold openSize in size-is in
+      let z : countSize (countIn (s .pending)) ≡ length e = unfold openSize in open-size h in
       ap₂ (λ (x : List ℕ) (c : ℕ). put x (at + c) (trailer (part x at c))) t z
       ∙ ap (λ (x : List ℕ). put (put out at e) (at + length e) (trailer x)) (part-put out at e fit)
       ∙ put-put out at e (trailer e) (omega (arith, trailer-length e))
@@ -274,7 +275,7 @@ module _ {o : Options} {b : Building} {s : Builder} (h : Counted o b s) (m : Sma
   index-is =
       index-append o 0 (b .closed) (chunk ∷ [])
       ∙ ap₂ (λ (at n : ℕ). indexPairs o 0 (b .closed) ++ (record { key = key; value = handleBytes (record { offset = at; size = n }) } ∷ []))
-      (zero-add (length (written o (b .closed))) ∙ sym (written-is h)) (sym size-is)
+      (zero-add (length (written o (b .closed))) ∙ sym (written-is h)) (sym (open-size h))
 
   index-of : between o d .index ≡ packed (indexInterval o) (indexInterval o) [] (indexPairs o 0 (b .closed) ++ (pair ∷ []))
   unfolding between held entriesOf
@@ -284,9 +285,9 @@ module _ {o : Options} {b : Building} {s : Builder} (h : Counted o b s) (m : Sma
   unfolding between held restartsIn
   index-restarts-of = ap (restartsOf (indexInterval o) (indexInterval o) [] 0) index-is
 
-  handle-long : length handle ≡ handleSize (s .written) (openSize s)
+  handle-size : length handle ≡ handleSize (s .written) (openSize s)
   unfolding handleBytes handleSize
-  handle-long = simp length-append
+  handle-size = simp length-append
 
   pub closed-index : (x y : List ℕ) {x′ y′ : List ℕ} {a : Added} → AddedIs (s .indexed) 0 x x′ y y′ key handle a
       → x ≡ overlay (between o b .index) x → y ≡ overlay (between o b .indexRestarts) y
@@ -295,11 +296,11 @@ module _ {o : Options} {b : Building} {s : Builder} (h : Counted o b s) (m : Sma
   closed-index x y {x′} {y′} {a} g p q lx ly u =
       let st = index-stands h x y p q in
       let after = lens closed-counted in
-      let z : builderAfter (s .indexed) key (length handle) ≡ closedState s key .indexed = unfold closedState in ap (builderAfter (s .indexed) key) handle-long in
+      let z : builderAfter (s .indexed) key (length handle) ≡ closedState s key .indexed = unfold closedState in ap (builderAfter (s .indexed) key) handle-size in
       let zb = ap (λ (c : BlockBuilder). c .bytes) z in
       let zr = ap (λ (c : BlockBuilder). c .restarts) z in
       let fits : a .fits ≡ true =
-      g .fits ∙ fits-addable (s .indexed) 0 x y key handle (index-countable s m key k (length handle) (handle-most (s .written) (openSize s))) (omega (arith, after .index)) (omega (arith, after .indexRestarts))
+      g .fits ∙ fits-addable (s .indexed) 0 x y key handle (index-countable s m key k (length handle) (handle-long (record { offset = s .written; size = openSize s }))) (omega (arith, after .index)) (omega (arith, after .indexRestarts))
       (omega (arith, lens h .index)) in
       let more = stands-more st pair g fits in
       let kept = added-kept g in
@@ -312,7 +313,7 @@ module _ {o : Options} {b : Building} {s : Builder} (h : Counted o b s) (m : Sma
   filters-close =
       wait-none _
       ∙ filters-append o 0 noFilters (b .closed) (chunk ∷ [])
-      ∙ ap₂ (λ (at n : ℕ). filtersUpTo (at + n + 5) (filtersNow o b)) (zero-add (length (written o (b .closed))) ∙ sym (written-is h)) (sym size-is)
+      ∙ ap₂ (λ (at n : ℕ). filtersUpTo (at + n + 5) (filtersNow o b)) (zero-add (length (written o (b .closed))) ∙ sym (written-is h)) (sym (open-size h))
     where
       wait-none : (f : Filters) → wait [] f ≡ f
       wait-none f = unfold wait in rw append-nil

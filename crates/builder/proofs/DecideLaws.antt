@@ -6,13 +6,9 @@ use mathlib.Core.List.{List}
 use mathlib.Core.Bool.{Bool, true, false, _&&_}
 use native.Mathlib.Omega.{arith}
 use lib.Dec.{leb, ltb}
-use lib.ListN.{length, take, length-append, length-take}
+use lib.ListN.{length, length-append, length-take}
 use borrow.Author.Tests.{leb-true, ltb-true, eq-eqb, ne-eqb}
-use Rattle.codec.specs.Put.{Wrote}
-use Rattle.codec.specs.declared.put.Written.{Written}
-use Rattle.codec.specs.declared.put.Written.the-variants.{At, NoRoom}
 use Rattle.codec.proofs.Prelude.{test, both}
-use Rattle.codec.proofs.PutLaws.{put-length, put-front, wrote-next, wrote-never}
 use Rattle.keys.specs.Order.{bytesBelow, userOf, lastTag, userSep, separator, below}
 use Rattle.block.specs.Builder.{newBuilder}
 use Rattle.table.specs.Options.{optionsFit}
@@ -101,20 +97,6 @@ sep-most a b =
     let h = ltb-true (length s) (length (userOf a)) (both (ltb (length s) (length (userOf a))) (bytesBelow (userOf a) s) t .0) in
     rw (t, separator) (simp length-append (omega arith)))
     (λ t. rw (t, separator) (omega arith))
-
-module _ (d a key : List ℕ) (r : Written) (e : List ℕ) (l : length d ≡ 1032) (k : length a ≤ 1032) (w : Wrote d 0 (separator a key) r e) where
-  sep-room : 0 + length (separator a key) ≤ length d
-  sep-room = omega (arith, sep-most a key)
-
-  pub sep-never : r ≡ NoRoom → ⊥
-  sep-never = wrote-never d 0 (separator a key) r e sep-room w
-
-  pub sep-put : (n : ℕ) → r ≡ At n → (n ≤ 1032) × ((length e ≡ 1032) × (take n e ≡ separator a key))
-  sep-put n p =
-      let m : n ≡ 0 + length (separator a key) = wrote-next d 0 (separator a key) n r e sep-room w p in (
-        omega (arith, sep-room),
-        (ap length (w .left) ∙ put-length d 0 (separator a key) ∙ l, rw (m, w .left) (put-front d 0 (separator a key) sep-room)),
-      )
 
 -- ---- the last key
 

@@ -33,7 +33,7 @@ use Rattle.builder.specs.declared.table_builder.Lengths.{Lengths}
 use Rattle.builder.specs.State.{optionsOf, countsIn}
 use Rattle.builder.specs.Steps.{small, Small, Whole, filterCountIn, filtersIn, lastState, metaLen, lastFilters, endable, EndingIs}
 use Rattle.builder.specs.Writes.{Framed, IndexPut, EndFits, filterBlock, metaBlock, EndPut}
-use Rattle.builder.proofs.OverlayLaws.{overlay-put, overlay-long}
+use Rattle.table.proofs.OverlayLaws.{overlay-put, overlay-long}
 
 pub filter-long : (f : FilterSizes) (filters offsets : List ℕ) → f .bytes ≤ length filters → f .made ≤ length offsets → f .bytes + 4 * f .made + 5 ≡ length (filterBlock f filters offsets)
 unfolding filterBlock

@@ -18,37 +18,26 @@ use Rattle.block.specs.Builder as Blocks
 use Rattle.block.specs.Builder.{countIn, builderAfter, builderWith, AddedIs}
 use Rattle.block.proofs.BuilderLaws.{stands-more, added-kept, added-did}
 use Rattle.block.proofs.BuilderCode.{next-bytes, next-restarts}
-use Rattle.block.proofs.CountLaws.{count-entry}
 use Rattle.filter.specs.Filter.{hash}
 use Rattle.filter.specs.FilterBlock.{Filters, wait}
 use Rattle.filter.specs.FilterCount.{countWaiting}
-use Rattle.filter.proofs.FilterCountLaws.{wait-append, count-wait}
+use Rattle.filter.proofs.FilterCountLaws.{wait-append}
 use Rattle.table.specs.Options.{Options, indexInterval, Addition}
 use Rattle.table.specs.Build.{Building, keyOf, pairOf, written}
 use Rattle.table.specs.Runs.{Runs, filtersNow, entriesOf, restartsIn, held, between, overlay, overlaid, FitsRoom}
 use Rattle.table.specs.Counts.{Counts, countsOf}
+use Rattle.table.proofs.CountsLaws.{counts-put}
 use Rattle.builder.specs.declared.table_builder.Builder.{Builder}
 use Rattle.builder.specs.State.{countsIn}
 use Rattle.builder.specs.Steps.{Roomy, enteredState}
 use Rattle.builder.specs.Writes.{EnteredRuns}
 use Rattle.builder.proofs.SizeLaws.{count-after, countable-small}
-use Rattle.builder.proofs.OverlayLaws.{overlay-behind, overlay-of, overlay-put, overlay-first, overlay-at, overlay-long}
+use Rattle.table.proofs.OverlayLaws.{overlay-behind, overlay-of, overlay-put, overlay-first, overlay-at, overlay-long}
 use Rattle.builder.proofs.CloseLaws.{Counted, Rooms, lens, open-stands, written-is, bytes-is, restarts-is, waiting-is, fits-addable}
 
 -- the building with an addition in the open block
 abbrev pub with : Building → Addition → Building
 with c a = record { closed = c .closed; openBlock = c .openBlock ++ (a ∷ []) }
-
-counts-put : (o : Options) (b : Building) (a : Addition) → countsOf o (with b a)
-    ≡ (let c = countsOf o b in
-    record {
-      written = c .written;
-      openBlock = countEntry (o .interval) (c .openBlock) (keyOf a) (length (a .value));
-      index = c .index;
-      filters = countWaiting (c .filters);
-    })
-unfolding countsOf filtersNow pairOf
-counts-put o b a = rw (map-append pairOf (b .openBlock) (a ∷ []), map-append, wait-append, count-wait, count-entry)
 
 -- a start of a start
 take-less : (n m : ℕ) (x y : List ℕ) → n ≤ m → take m x ≡ take m y → take n x ≡ take n y

@@ -12,9 +12,10 @@ use Rattle.codec.specs.Checksum.{trailer}
 use Rattle.codec.specs.Put.{put, Wrote}
 use Rattle.codec.specs.Varint.{Handle, handleBytes}
 use Rattle.codec.specs.declared.put.Written.{Written}
-use Rattle.codec.specs.declared.put.Written.the-variants.{At, NoRoom}
-use Rattle.codec.proofs.PutLaws.{put-length, put-front, put-put, put-room, wrote-next, wrote-never}
+use Rattle.codec.specs.declared.put.Written.the-variants.{At}
+use Rattle.codec.proofs.PutLaws.{put-put, put-room, wrote-next}
 use Rattle.codec.proofs.TrailerLaws.{trailer-length}
+use Rattle.codec.proofs.VarintLaws.{handle-long}
 use Rattle.block.specs.declared.block_builder.BlockBuilder.{BlockBuilder}
 use Rattle.block.specs.declared.block_builder.Added.{Added}
 use Rattle.block.specs.Block.{Pair, packed, restartsOf, tailBytes, blockBytes}
@@ -36,22 +37,8 @@ use Rattle.builder.specs.declared.table_builder.Builder.{Builder}
 use Rattle.builder.specs.Steps.{lastOf}
 use Rattle.builder.specs.Writes.{tailedOut, sealedOut, ClosedRuns, LastRuns, Framed}
 use Rattle.builder.proofs.SizeLaws.{entry-restarts, countable-small, name-most}
-use Rattle.builder.proofs.WriteLaws.{sealed-is, handle-most}
+use Rattle.builder.proofs.WriteLaws.{sealed-is}
 use Rattle.builder.proofs.CloseLaws.{part-put, fits-addable}
-
--- ---- bytes at the front of an array
-
-module _ (n : ℕ) {d e : List ℕ} {r : Written} (bs : List ℕ) (l : length d ≡ n) (k : length bs ≤ n) (w : Wrote d 0 bs r e) where
-  front-room : 0 + length bs ≤ length d
-  front-room = omega arith
-
-  pub front-never : r ≡ NoRoom → ⊥
-  front-never = wrote-never d 0 bs r e front-room w
-
-  pub front-put : {m : ℕ} → r ≡ At m → (m ≤ n) × ((length e ≡ n) × (take m e ≡ bs))
-  front-put {m} p =
-      let q : m ≡ 0 + length bs = wrote-next d 0 bs m r e front-room w p in
-      (omega (arith, front-room), (ap length (w .left) ∙ put-length d 0 bs ∙ l, rw (q, w .left) (put-front d 0 bs front-room)))
 
 -- ---- contents and their trailer
 
@@ -196,7 +183,7 @@ module _ (a b : List ℕ) (la : length a ≤ 20) (lb : length b ≤ 20) where
 pub footer-is : (m i : Handle) {f₁ f₂ f₃ : List ℕ} {n : ℕ} → f₁ ≡ put (replicate 48 0) 0 (handleBytes m) → n ≡ 0 + length (handleBytes m) → f₂ ≡ put f₁ n (handleBytes i) → f₃ ≡ put f₂ 40 magic
     → f₃ ≡ footerBytes m i
 unfolding footerBytes
-footer-is m i p q r w = foot-is (handleBytes m) (handleBytes i) (handle-most (m .offset) (m .size)) (handle-most (i .offset) (i .size)) p q r w
+footer-is m i p q r w = foot-is (handleBytes m) (handleBytes i) (handle-long m) (handle-long i) p q r w
 
 -- ---- the last block, and the last filter
 
@@ -211,7 +198,7 @@ pub foot-next : (offset size : ℕ) {e : List ℕ} {r : Written} {n : ℕ} → W
 foot-next offset size {e} {r} {n} w p =
     let bs = handleBytes (record { offset = offset; size = size }) in
     let l = length-replicate {A = ℕ} 48 0 in
-    wrote-next (replicate 48 0) 0 bs n r e (omega (arith, handle-most offset size)) w p
+    wrote-next (replicate 48 0) 0 bs n r e (omega (arith, handle-long (record { offset = offset; size = size }))) w p
 
 -- ---- the metaindex
 
@@ -228,4 +215,4 @@ pub meta-framed : {i at len : ℕ} {out out′ name value : List ℕ} (f : Filte
     → 1 ≤ i → i ≤ 1024 → len ≡ length (blockBytes i (record { key = metaName (choiceOf f); value = handleBytes (record { offset = offset; size = size }) } ∷ []))
     → Framed out at (blockBytes i (record { key = metaName (choiceOf f); value = handleBytes (record { offset = offset; size = size }) } ∷ [])) out′
 meta-framed f offset size p q g l m e =
-    (rw (p, q) at g) l m (omega (arith, name-most (choiceOf f))) (omega (arith, handle-most offset size)) e
+    (rw (p, q) at g) l m (omega (arith, name-most (choiceOf f))) (omega (arith, handle-long (record { offset = offset; size = size }))) e

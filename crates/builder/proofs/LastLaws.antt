@@ -7,6 +7,7 @@ use mathlib.Core.Bool.{true}
 use native.Mathlib.Nat.{zero-add}
 use native.Mathlib.Omega.{arith}
 use lib.ListN.{length, take, length-append}
+use Rattle.codec.proofs.Lists.{no-length}
 use borrow.Author.Tests.{le-leb}
 use Rattle.codec.proofs.Prelude.{split}
 use Rattle.block.specs.Block.{packed, restartsOf}
@@ -38,14 +39,11 @@ use Rattle.builder.specs.Answers.{overState, FinishedIs}
 use Rattle.builder.proofs.SizeLaws as Size
 use Rattle.builder.proofs.DecideLaws.{sane-is, last-short}
 use Rattle.builder.proofs.AddLaws.{early-zero, early-traced}
-use Rattle.builder.proofs.OverlayLaws.{overlay-none, overlay-front, overlay-put, overlay-long, groups-some, starts-append}
+use Rattle.table.proofs.OverlayLaws.{overlay-none, overlay-front, overlay-put, overlay-long}
+use Rattle.filter.proofs.MakeLaws.{groups-some}
+use Rattle.builder.proofs.GroupLaws.{starts-append}
 use Rattle.builder.proofs.CloseLaws.{Counted, Rooms, lens, counting, index-stands, filters-is, filtered-is, made-is, waiting-is, written-is, options-filter, options-interval, made-room, closed-counted, waits-close, closed-all}
 use Rattle.builder.proofs.TraceLaws.{stands-counted, trace-began, trace-fits, trace-small, trace-is-small, trace-sane, last-is}
-
--- a list of no length
-none-of : (w : List ℕ) → length w ≡ 0 → w ≡ []
-none-of [] e = refl
-none-of (x ∷ w) e = absurd (omega arith)
 
 last-no : (f : Filters) → f .waiting ≡ [] → lastFilter f ≡ f
 unfolding lastFilter
@@ -198,7 +196,7 @@ module _ (o : Options) (more : List Addition) (b : Building) (s : Builder) (r : 
           none : mid .waiting ≤ 0 → (f′ ≡ overlay (madeBytes ch (lastFilter fs .made)) (r .filters)) × (q′ ≡ overlay (starts ch 0 (lastFilter fs .made)) (r .offsets))
           none l =
               let z : mid .waiting ≡ 0 = omega arith in
-              let w = last-no fs (none-of (fs .waiting) (sym (waiting-is last-counted) ∙ z)) in
+              let w = last-no fs (no-length (fs .waiting) (sym (waiting-is last-counted) ∙ z)) in
               let p = k .none z in
               rw w (p .0 ∙ eq-filters, p .1 ∙ eq-offsets)
 
@@ -297,7 +295,7 @@ module _ (o : Options) (more : List Addition) (b : Building) (s : Builder) (r : 
 
   -- all of it
   waits-none : lastFilter fs .waiting ≡ []
-  waits-none = none-of (lastFilter fs .waiting) (unfold filterCountOf in ap (λ (x : FilterCount). x .waiting) (count-last (o .filtering) fs) ∙ last-kept (o .filtering) (filterCountOf (o .filtering) fs) .1)
+  waits-none = no-length (lastFilter fs .waiting) (unfold filterCountOf in ap (λ (x : FilterCount). x .waiting) (count-last (o .filtering) fs) ∙ last-kept (o .filtering) (filterCountOf (o .filtering) fs) .1)
 
   fin-eq : (r′ : Runs) → r′ .out ≡ overlay (Build.finish o b) (r .out) → r′ .index ≡ overlay (between o c .index) (r .index)
       → r′ .filters ≡ overlay (madeBytes (o .filtering) (lastFilter fs .made)) (r .filters) → r′ .restarts ≡ r .restarts

@@ -3,7 +3,7 @@ pub mod StartLaws
 pub mod SizeLaws
 pub mod DecideLaws
 pub mod WriteLaws
-pub mod OverlayLaws
+pub mod GroupLaws
 pub mod CloseLaws
 pub mod EnterLaws
 pub mod TraceLaws

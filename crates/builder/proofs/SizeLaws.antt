@@ -17,7 +17,8 @@ use Rattle.codec.proofs.VarintLaws.{varint-bytes-length}
 use Rattle.block.specs.declared.block_builder.BlockBuilder.{BlockBuilder}
 use Rattle.block.specs.declared.block_builder.Counted.{Counted}
 use Rattle.block.specs.Block.{since, sharing}
-use Rattle.block.specs.Formed.{within, bloomName}
+use Rattle.codec.specs.Limits.{within}
+use Rattle.block.specs.Formed.{bloomName}
 use Rattle.block.specs.Count.{BlockCount, noEntries, varintSize, entrySize, countEntry, countSize}
 use Rattle.block.specs.Builder.{countIn, newBuilder, builderWith, builderAfter, countable, CountedIs}
 use Rattle.block.proofs.BuilderLaws.{counting-none}
@@ -29,7 +30,7 @@ use Rattle.filter.specs.Filter.{filterSize}
 use Rattle.filter.specs.FilterBlock.{Filtering, unfiltered, bitsPerKey}
 use Rattle.filter.specs.FilterCount.{FilterCount, filterBytesOf, countMade, countUpTo, countLast, filterBlockSize}
 use Rattle.filter.specs.Choice.{choiceOf}
-use Rattle.table.specs.Options.{Options, indexInterval, optionsFit, filteringFits}
+use Rattle.table.specs.Options.{Options, indexInterval, optionsFit, filteringFits, tableLimit}
 use Rattle.table.specs.Build.{metaName}
 use Rattle.table.specs.Counts.{handleSize, countClose, countCloseLast, metaSize, finishedSize}
 use Rattle.table.proofs.AcceptLaws.{within-parts}
@@ -223,12 +224,12 @@ module _ (s : Builder) where
 
 -- what the numbers of a closed state are at most
 pub record Bounded (d : Builder) : Type 0 where
-  pub written : d .written ≤ 1073741824
-  pub indexBytes : d .indexed .bytes ≤ 1073741824
-  pub indexRestarts : d .indexed .restarts ≤ 1073741824
-  pub filtered : d .filtered ≤ 1073741824
-  pub made : d .made ≤ 1073741824
-  pub waiting : d .waiting ≤ 16777216
+  pub written : d .written ≤ 2 ^ 30
+  pub indexBytes : d .indexed .bytes ≤ 2 ^ 30
+  pub indexRestarts : d .indexed .restarts ≤ 2 ^ 30
+  pub filtered : d .filtered ≤ 2 ^ 30
+  pub made : d .made ≤ 2 ^ 30
+  pub waiting : d .waiting ≤ tableLimit
 
 module _ (s : Builder) (h : Small s) where
   bounded-same : Bounded s
@@ -320,23 +321,23 @@ module _ (s : Builder) (h : Small s) (w : Whole s) where
 module _ (s : Builder) (h : Small s) where
   -- its sums have 64 bits
   pub last-room : length (lastOf s) ≤ 1032 → (d : Builder) → d ≡ lastState s
-      → (d .filtered + filterBytesOf (choiceOf (s .options .filter)) (d .waiting) ≤ 1207959561) × (d .made ≤ 1073741824)
+      → (d .filtered + filterBytesOf (choiceOf (s .options .filter)) (d .waiting) ≤ 2 ^ 31) × (d .made ≤ 2 ^ 30)
   last-room k d e =
       let b = bounded-last s h k e in
       (omega (arith, b .filtered, b .waiting, filter-most (choiceOf (s .options .filter)) (d .waiting) (h .fits)), b .made)
 
   pub last-sizes : length (lastOf s) ≤ 1032 → (d : Builder) (f : FilterSizes) → d ≡ lastState s
       → filterCountIn f ≡ countLast (choiceOf (s .options .filter)) (record { bytes = d .filtered; made = d .made; waiting = d .waiting })
-      → (f .bytes ≤ 1207959561) × (f .made ≤ 2147483649) × (d .written ≤ 1073741824) × (countSize (countIn (d .indexed)) ≤ 5368709124)
+      → (f .bytes ≤ 2 ^ 40) × (f .made ≤ 2 ^ 40) × (d .written ≤ 2 ^ 40) × (countSize (countIn (d .indexed)) ≤ 2 ^ 40)
   unfolding filterCountIn countSize countIn
   last-sizes k d f e ef =
       let c = choiceOf (s .options .filter) in
       let q : FilterCount = record { bytes = d .filtered; made = d .made; waiting = d .waiting } in
       let b = bounded-last s h k e in
       let r = last-room k d e in
-      let x : f .bytes ≤ 1207959561 = omega (arith, ap (λ (z : FilterCount). z .bytes) ef, last-bytes c q) in
-      let y : f .made ≤ 2147483649 = omega (arith, ap (λ (z : FilterCount). z .made) ef, last-many c q) in
-      (x, y, b .written, omega (arith, b .indexBytes, b .indexRestarts))
+      let x : f .bytes ≤ 2 ^ 31 = omega (arith, ap (λ (z : FilterCount). z .bytes) ef, last-bytes c q) in
+      let y : f .made ≤ 2 ^ 40 = omega (arith, ap (λ (z : FilterCount). z .made) ef, last-many c q) in
+      (omega arith, omega arith, omega (arith, b .written), omega (arith, b .indexBytes, b .indexRestarts))
 
 -- the name and the metaindex's size
 pub meta-is : (c : Filtering) (offset size a b n x y : ℕ) → a ≡ varintSize offset → b ≡ varintSize size → n ≡ length (metaName c) → x ≡ varintSize n → y ≡ varintSize (a + b)
@@ -368,13 +369,13 @@ small-is s f e =
     let x2 = both (eqb (s .indexed .interval) (s .options .interval)) _ (x1 .1) in
     let x3 = both (leb (s .pending .since) (s .options .interval)) _ (x2 .1) in
     let x4 = both (leb (s .indexed .since) (s .options .interval)) _ (x3 .1) in
-    let x5 = both (leb (s .written) 16777216) _ (x4 .1) in
-    let x6 = both (leb (s .pending .bytes) 16777216) _ (x5 .1) in
-    let x7 = both (leb (s .pending .restarts) 16777216) _ (x6 .1) in
-    let x8 = both (leb (s .indexed .bytes) 16777216) _ (x7 .1) in
-    let x9 = both (leb (s .indexed .restarts) 16777216) _ (x8 .1) in
-    let xa = both (leb (s .filtered) 16777216) _ (x9 .1) in
-    let xb = both (leb (s .made) 16777216) _ (xa .1) in
+    let x5 = both (leb (s .written) tableLimit) _ (x4 .1) in
+    let x6 = both (leb (s .pending .bytes) tableLimit) _ (x5 .1) in
+    let x7 = both (leb (s .pending .restarts) tableLimit) _ (x6 .1) in
+    let x8 = both (leb (s .indexed .bytes) tableLimit) _ (x7 .1) in
+    let x9 = both (leb (s .indexed .restarts) tableLimit) _ (x8 .1) in
+    let xa = both (leb (s .filtered) tableLimit) _ (x9 .1) in
+    let xb = both (leb (s .made) tableLimit) _ (xa .1) in
     let y1 = both (within 1 1024 (s .options .interval)) _ f in
     let y2 = both (within 8 65536 (s .options .«block_size»)) _ (y1 .1) in
     let w = within-parts 1 1024 (s .options .interval) (y1 .0) in

@@ -11,11 +11,10 @@ use Rattle.codec.proofs.Prelude.{test, both, is-true, true-is}
 use Rattle.keys.specs.Order.{below, separator}
 use Rattle.keys.proofs.KeyLaws.{internal-length}
 use Rattle.block.specs.Block.{Pair, sinceAll}
-use Rattle.block.specs.Formed.{within}
-use Rattle.block.specs.Count.{BlockCount, countOf, countSize}
+use Rattle.codec.specs.Limits.{within}
+use Rattle.block.specs.Count.{BlockCount, countOf}
 use Rattle.block.specs.Builder.{countIn, builderAfter, builderWith}
 use Rattle.block.proofs.CountLaws.{count-zero}
-use Rattle.filter.specs.FilterBlock.{Filtering, unfiltered, bitsPerKey}
 use Rattle.table.specs.Checked.{Checked, pass, refuse, _>>=_, ask}
 use Rattle.table.specs.Options.{Options, indexInterval, optionsFit, emptySize, tableLimit, Addition, additionFits}
 use Rattle.table.specs.Build.{Building, keyOf, pairOf, chunkBytes, begin, lastKey, indexPairs, close, closeBefore, add, finish, above, accept, acceptAll}
@@ -23,16 +22,17 @@ use Rattle.table.specs.Runs.{Runs, between, finished, overlay, overlaid, FitsRo
 use Rattle.table.specs.Counts.{finishedSize}
 use Rattle.table.proofs.CheckedLaws.{passing, asking, ask-pass, pass-same}
 use Rattle.table.proofs.AcceptLaws.{within-parts}
-use Rattle.table.proofs.CountsLaws.{chunk-size, size-finished}
+use Rattle.table.proofs.CountsLaws.{size-finished}
+use Rattle.table.proofs.StepLaws.{empty-most}
 use Rattle.table.proofs.SufficeLaws.{runs-suffice}
 use Rattle.builder.specs.declared.table_builder.Lengths.{Lengths}
 use Rattle.builder.specs.declared.table_builder.Builder.{Builder}
 use Rattle.builder.specs.State.{optionsOf, countsIn, lengthsOf, sameLengths, sizesFit, sane, Stands}
-use Rattle.builder.specs.Steps.{small, Small, Whole, Roomy, openSize, lastOf, closedState, enteredState, aboveLast, cutOf, sepOf, midOf, nextOf, fitsOf, decideOf}
+use Rattle.builder.specs.Steps.{small, Small, Whole, Roomy, lastOf, closedState, enteredState, aboveLast, cutOf, sepOf, midOf, nextOf, fitsOf, decideOf}
 use Rattle.builder.proofs.SizeLaws.{since-most, small-is}
 use Rattle.builder.proofs.DecideLaws.{sep-most, last-short, mid-not, mid-cut, mid-roomy, above-none, above-some}
-use Rattle.builder.proofs.OverlayLaws.{overlay-front, overlay-of, overlay-long}
-use Rattle.builder.proofs.CloseLaws.{Counted, Rooms, lens, counting, index-counting, options-interval, closed-counted}
+use Rattle.table.proofs.OverlayLaws.{overlay-front, overlay-of, overlay-long}
+use Rattle.builder.proofs.CloseLaws.{Counted, Rooms, lens, counting, index-counting, open-size, options-interval, closed-counted}
 use Rattle.builder.proofs.EnterLaws.{entered-counted}
 
 -- ---- what start asked for
@@ -42,19 +42,14 @@ pub record Began (o : Options) (r : Runs) : Type 0 where
   pub least : emptySize (o .filtering) ≤ roomOf (length (r .out))
   pub rooms : Rooms (roomOf (length (r .out))) r
 
-empty-most : (c : Filtering) → emptySize c ≤ 123
-unfolding emptySize
-empty-most unfiltered = omega arith
-empty-most (bitsPerKey b) = omega arith
-
 pub began : (o : Options) (r : Runs) → startOf o r ≡ pass tt → Began o r
-unfolding startOf roomOf tableLimit
+unfolding startOf roomOf
 began o r e =
     asking 1 _ _ e λ f e.
     asking 2 _ _ e λ x e.
     asking 2 _ _ e λ y e.
     asking 2 _ _ e λ z e.
-    let n = min 16777216 (length (r .out)) in
+    let n = min tableLimit (length (r .out)) in
     let a = leb-true (emptySize (o .filtering)) (length (r .out)) (is-true _ x) in
     let u = both (leb n (length (r .index))) _ (is-true _ y) in
     let v = both (leb (n / 4) (length (r .restarts))) _ (is-true _ z) in
@@ -86,7 +81,7 @@ interval-least : (o : Options) → optionsFit o ≡ true → 1 ≤ o .interval
 unfolding optionsFit
 interval-least o f = within-parts 1 1024 (o .interval) (both (within 1 1024 (o .interval)) _ f .0) .0
 
-module _ {o : Options} {b : Building} {s : Builder} (h : Counted o b s) (f : optionsFit o ≡ true) (room : ℕ) (u : FitsRoom room (between o b)) (l : room ≤ 16777216) where
+module _ {o : Options} {b : Building} {s : Builder} (h : Counted o b s) (f : optionsFit o ≡ true) (room : ℕ) (u : FitsRoom room (between o b)) (l : room ≤ tableLimit) where
   pub counted-small : small s ≡ true
   unfolding small indexInterval
   counted-small =
@@ -100,14 +95,14 @@ module _ {o : Options} {b : Building} {s : Builder} (h : Counted o b s) (f : opt
         eq-eqb (s .indexed .interval) (s .options .interval) (h .indexInterval ∙ sym n),
         le-leb (s .pending .since) (s .options .interval) p,
         le-leb (s .indexed .since) (s .options .interval) q,
-        le-leb (s .written) 16777216 (omega (arith, x .out, u .out)),
-        le-leb (s .pending .bytes) 16777216 (omega (arith, x .out, u .out)),
-        le-leb (s .pending .restarts) 16777216 (omega (arith, x .restarts, u .restarts)),
-        le-leb (s .indexed .bytes) 16777216 (omega (arith, x .index, u .index)),
-        le-leb (s .indexed .restarts) 16777216 (omega (arith, x .indexRestarts, u .indexRestarts)),
-        le-leb (s .filtered) 16777216 (omega (arith, x .filters, u .filters)),
-        le-leb (s .made) 16777216 (omega (arith, x .offsets, u .offsets)),
-        le-leb (s .waiting) 16777216 (omega (arith, x .hashes, u .hashes)),
+        le-leb (s .written) tableLimit (omega (arith, x .out, u .out)),
+        le-leb (s .pending .bytes) tableLimit (omega (arith, x .out, u .out)),
+        le-leb (s .pending .restarts) tableLimit (omega (arith, x .restarts, u .restarts)),
+        le-leb (s .indexed .bytes) tableLimit (omega (arith, x .index, u .index)),
+        le-leb (s .indexed .restarts) tableLimit (omega (arith, x .indexRestarts, u .indexRestarts)),
+        le-leb (s .filtered) tableLimit (omega (arith, x .filters, u .filters)),
+        le-leb (s .made) tableLimit (omega (arith, x .offsets, u .offsets)),
+        le-leb (s .waiting) tableLimit (omega (arith, x .hashes, u .hashes)),
       )
 
   pub counted-sane : (r : Runs) → Rooms room r → s .lengths ≡ lengthsOf r → (s .pending .len ≤ 1032) × (s .indexed .len ≤ 1032) → sane s (lengthsOf r) ≡ true
@@ -164,13 +159,9 @@ module _ {o : Options} {b : Building} {s : Builder} (h : Counted o b s) where
   unfolding lastOf lastKey countIn countOf
   last-is = ap (λ (c : BlockCount). c .last) (counting h .counts)
 
-  open-size : openSize s ≡ length (chunkBytes o (b .openBlock))
-  unfolding openSize
-  open-size = ap countSize (counting h .counts) ∙ sym (chunk-size o (b .openBlock))
-
   pub cut-is : cutOf s ≡ ltb (o .blockSize) (length (chunkBytes o (b .openBlock)))
   unfolding cutOf optionsOf
-  cut-is = ap₂ ltb (ap (λ (x : Options). x .blockSize) (h .options)) open-size
+  cut-is = ap₂ ltb (ap (λ (x : Options). x .blockSize) (h .options)) (open-size h)
 
   pub above-is : (a : Addition) → aboveLast s (keyOf a) ≡ above a (b .openBlock)
   unfolding above countIn countOf

@@ -1,18 +1,15 @@
 -- What the builder's private functions write, as the code goes.
 use Prim.Native.Nat.{ℕ, _+_, _-_, _/_, _^_, _≤_, _<_, min}
-use mathlib.Core.Path.{_≡_, refl, sym, ap, ap₂, _∙_}
+use mathlib.Core.Path.{_≡_, refl, sym, ap₂, _∙_}
 use mathlib.Core.List.{List, [], _∷_}
 use mathlib.Core.Bool.{Bool, true, false, false≢true}
 use native.Mathlib.Omega.{arith}
-use lib.ListN.{length, take, set, length-append}
+use lib.ListN.{length, take, set}
 use Rattle.codec.specs.Bytes.{part}
 use Rattle.codec.specs.Checksum.{trailer}
-use Rattle.codec.specs.Put.{put, Wrote}
+use Rattle.codec.specs.Put.{put}
 use Rattle.codec.specs.Varint.{handleBytes}
-use Rattle.codec.specs.declared.put.Written.{Written}
-use Rattle.codec.specs.declared.put.Written.the-variants.{At, NoRoom}
-use Rattle.codec.proofs.PutLaws.{put-length, put-front, put-sets, put-full, wrote-next, wrote-never}
-use Rattle.codec.proofs.VarintLaws.{varint-bytes-length}
+use Rattle.codec.proofs.PutLaws.{put-sets, put-full}
 use Rattle.block.specs.declared.block_builder.BlockBuilder.{BlockBuilder}
 use Rattle.block.specs.Block.{tailBytes}
 use Rattle.block.specs.Count.{countSize}
@@ -31,27 +28,6 @@ pub sealed-is : (out : List ℕ) (at : ℕ) (b : BlockBuilder) (rs : List ℕ) (
     → e ≡ put out (at + b .bytes) (tailBytes (take (b .restarts) rs)) → f ≡ put e (at + size) (trailer (part e at size)) → f ≡ sealedOut out at b rs
 unfolding sealedOut tailedOut
 sealed-is out at b rs size p q w = w ∙ ap₂ (λ (x : List ℕ) (n : ℕ). put x (at + n) (trailer (part x at n))) q p
-
--- ---- a handle in 20 bytes
-
-pub handle-most : (offset size : ℕ) → length (handleBytes (record { offset = offset; size = size })) ≤ 20
-unfolding handleBytes
-handle-most offset size = simp length-append (omega (arith, varint-bytes-length offset, varint-bytes-length size))
-
-module _ {d e : List ℕ} {r : Written} (offset size : ℕ) (l : length d ≡ 20) (w : Wrote d 0 (handleBytes (record { offset = offset; size = size })) r e) where
-  abbrev h : List ℕ
-  h = handleBytes (record { offset = offset; size = size })
-
-  handle-room : 0 + length h ≤ length d
-  handle-room = omega (arith, handle-most offset size)
-
-  pub handle-never : r ≡ NoRoom → ⊥
-  handle-never = wrote-never d 0 h r e handle-room w
-
-  pub handle-put : {n : ℕ} → r ≡ At n → (n ≤ 20) × ((length e ≡ 20) × (take n e ≡ h))
-  handle-put {n} p =
-      let m : n ≡ 0 + length h = wrote-next d 0 h n r e handle-room w p in
-      (omega (arith, handle-room), (ap length (w .left) ∙ put-length d 0 h ∙ l, rw (m, w .left) (put-front d 0 h handle-room)))
 
 -- ---- one number more
 

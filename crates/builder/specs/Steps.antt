@@ -12,7 +12,7 @@ use Rattle.block.specs.Builder.{countIn, newBuilder, builderAfter}
 use Rattle.filter.specs.FilterBlock.{Filtering}
 use Rattle.filter.specs.FilterCount.{FilterCount, countUpTo, countLast}
 use Rattle.filter.specs.Choice.{choiceOf}
-use Rattle.table.specs.Options.{filteringFits}
+use Rattle.table.specs.Options.{filteringFits, tableLimit}
 use Rattle.table.specs.Build.{metaName}
 use Rattle.table.specs.Runs.{roomOf}
 use Rattle.table.specs.Counts.{handleSize, finishedSize}
@@ -30,11 +30,11 @@ small s =
     && (eqb (s .indexed .interval) (s .options .interval)
     && (leb (s .pending .since) (s .options .interval)
     && (leb (s .indexed .since) (s .options .interval)
-    && (leb (s .written) 16777216
-    && (leb (s .pending .bytes) 16777216
-    && (leb (s .pending .restarts) 16777216
-    && (leb (s .indexed .bytes) 16777216
-    && (leb (s .indexed .restarts) 16777216 && (leb (s .filtered) 16777216 && (leb (s .made) 16777216 && leb (s .waiting) 16777216))))))))))
+    && (leb (s .written) tableLimit
+    && (leb (s .pending .bytes) tableLimit
+    && (leb (s .pending .restarts) tableLimit
+    && (leb (s .indexed .bytes) tableLimit
+    && (leb (s .indexed .restarts) tableLimit && (leb (s .filtered) tableLimit && (leb (s .made) tableLimit && leb (s .waiting) tableLimit))))))))))
 
 -- and its options are within the limits
 pub record Small (s : Builder) : Type 0 where
@@ -45,14 +45,14 @@ pub record Small (s : Builder) : Type 0 where
   pub fits : filteringFits (choiceOf (s .options .filter)) ≡ true
   pub since : s .pending .since ≤ s .options .interval
   pub indexSince : s .indexed .since ≤ s .options .interval
-  pub written : s .written ≤ 16777216
-  pub bytes : s .pending .bytes ≤ 16777216
-  pub restarts : s .pending .restarts ≤ 16777216
-  pub indexBytes : s .indexed .bytes ≤ 16777216
-  pub indexRestarts : s .indexed .restarts ≤ 16777216
-  pub filtered : s .filtered ≤ 16777216
-  pub made : s .made ≤ 16777216
-  pub waiting : s .waiting ≤ 16777216
+  pub written : s .written ≤ tableLimit
+  pub bytes : s .pending .bytes ≤ tableLimit
+  pub restarts : s .pending .restarts ≤ tableLimit
+  pub indexBytes : s .indexed .bytes ≤ tableLimit
+  pub indexRestarts : s .indexed .restarts ≤ tableLimit
+  pub filtered : s .filtered ≤ tableLimit
+  pub made : s .made ≤ tableLimit
+  pub waiting : s .waiting ≤ tableLimit
 
 -- the filters' counts
 unfoldable pub filterCountIn : FilterSizes → FilterCount
@@ -100,9 +100,9 @@ pub record Roomy (s : Builder) (k v : ℕ) : Type 0 where
   pub least : 1 ≤ s .pending .interval
   pub most : s .pending .interval ≤ 1024
   pub since : s .pending .since ≤ s .pending .interval
-  pub bytes : s .pending .bytes ≤ 16777216
-  pub restarts : s .pending .restarts ≤ 16777216
-  pub waiting : s .waiting ≤ 16777216
+  pub bytes : s .pending .bytes ≤ tableLimit
+  pub restarts : s .pending .restarts ≤ tableLimit
+  pub waiting : s .waiting ≤ tableLimit
 
 -- one entry more in the open block
 unfoldable pub enteredState : Builder → List ℕ → ℕ → Builder

@@ -1,5 +1,5 @@
 -- What the builder's private functions write into the runs.
-use Prim.Native.Nat.{ℕ, zero, suc, _+_, _/_, _≤_}
+use Prim.Native.Nat.{ℕ, zero, suc, _+_, _/_, _≤_, _^_}
 use mathlib.Core.Path.{_≡_}
 use mathlib.Core.Logic.{_⊎_}
 use mathlib.Core.List.{List, [], _∷_, _++_}
@@ -108,10 +108,10 @@ pub record IndexPut (b : BlockBuilder) (index restarts : List ℕ) (at : ℕ) (o
 
 -- the end of a table has numbers of 64 bits, and what it is written from stands within the runs
 pub record EndFits (s : Builder) (f : FilterSizes) (filters offsets index : ℕ) : Type 0 where
-  pub written : s .written ≤ 1073741824
-  pub filterBytes : f .bytes ≤ 1207959561
-  pub made : f .made ≤ 2147483649
-  pub indexSize : countSize (countIn (s .indexed)) ≤ 5368709124
+  pub written : s .written ≤ 2 ^ 40
+  pub filterBytes : f .bytes ≤ 2 ^ 40
+  pub made : f .made ≤ 2 ^ 40
+  pub indexSize : countSize (countIn (s .indexed)) ≤ 2 ^ 40
   pub inFilters : f .bytes ≤ filters
   pub inOffsets : f .made ≤ offsets
   pub inIndex : s .indexed .bytes ≤ index

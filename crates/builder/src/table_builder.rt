@@ -9,7 +9,6 @@ ghost use lib.ListN.{length, take};
 ghost use Rattle.codec.specs.Put.{put};
 ghost use Rattle.codec.specs.Varint.{handleBytes};
 ghost use Rattle.block.specs.Block.{blockBytes};
-ghost use Rattle.block.specs.Formed.{within};
 ghost use Rattle.block.specs.Count.{countSize};
 ghost use Rattle.block.specs.Builder as Blocks;
 ghost use Rattle.block.specs.Builder.{countIn};
@@ -31,7 +30,7 @@ use codec::put::Written;
 use codec::varint::varint_len;
 use filter::filter::Filter;
 use filter::filter_block::Made;
-use keys::cmp::Ordering;
+use table::footer::TABLE_LIMIT;
 
 // Restart interval, block size and filter choice.
 pub struct Options {
@@ -102,13 +101,6 @@ fn both(a: bool, b: bool) -> bool
     if a { b } else { false }
 }
 
-// Whether a number is between two others.
-fn between(low: usize, high: usize, x: usize) -> bool
-    ensures { λ r. ⌜ r ≡ within low high x ⌝ }
-{
-    both(low <= x, x <= high)
-}
-
 // Whether a sum is at most n.
 fn sum_fits(a: usize, b: usize, n: usize) -> bool
     ensures { λ r. ⌜ r ≡ leb (a + b) n ⌝ }
@@ -123,7 +115,7 @@ fn sum_fits(a: usize, b: usize, n: usize) -> bool
 fn room(n: usize) -> usize
     ensures { λ r. ⌜ r ≡ roomOf n ⌝ }
 {
-    keys::cmp::least(16777216, n)
+    codec::limits::least(TABLE_LIMIT, n)
 }
 
 // Whether a filter choice is within the limits.
@@ -132,7 +124,7 @@ fn filter_fits(f: Filter) -> bool
 {
     match f {
         Filter::None => true,
-        Filter::Bits(b) => between(1, 64, b as usize),
+        Filter::Bits(b) => codec::limits::within(1, 64, b as usize),
     }
 }
 
@@ -151,8 +143,11 @@ fn options_fit(o: Options) -> bool
     ensures { λ r. ⌜ r ≡ optionsFit (optionsOf o) ⌝ }
 {
     let f = o.filter;
-    let b = both(between(8, 65536, o.block_size), filter_fits(f));
-    both(between(1, 1024, o.interval), b)
+    let b = both(
+        codec::limits::within(8, 65536, o.block_size),
+        filter_fits(f),
+    );
+    both(codec::limits::within(1, 1024, o.interval), b)
 }
 
 // Whether runs of such lengths are long enough to start with.
@@ -295,20 +290,20 @@ fn is_small(s: Builder) -> bool
     ensures { λ r. ⌜ r ≡ small s ⌝ }
 {
     let made = both(
-        s.filtered <= 16777216,
-        both(s.made <= 16777216, s.waiting <= 16777216),
+        s.filtered <= TABLE_LIMIT,
+        both(s.made <= TABLE_LIMIT, s.waiting <= TABLE_LIMIT),
     );
     let index = both(
-        s.indexed.bytes <= 16777216,
-        both(s.indexed.restarts <= 16777216, made),
+        s.indexed.bytes <= TABLE_LIMIT,
+        both(s.indexed.restarts <= TABLE_LIMIT, made),
     );
     let bytes = both(
-        s.pending.bytes <= 16777216,
-        both(s.pending.restarts <= 16777216, index),
+        s.pending.bytes <= TABLE_LIMIT,
+        both(s.pending.restarts <= TABLE_LIMIT, index),
     );
     let since = both(
         s.indexed.since <= s.options.interval,
-        both(s.written <= 16777216, bytes),
+        both(s.written <= TABLE_LIMIT, bytes),
     );
     let pending = both(s.pending.since <= s.options.interval, since);
     both(
@@ -418,7 +413,7 @@ fn closed_under(s: Builder, last: &[u8], len: usize) -> Builder
     requires { ⌜ (Small s) × (length (now last) ≡ 1032) ⌝ }
     ensures { λ r. ⌜ r ≡ closedState s (take len (now (last .entry))) ⌝ }
 {
-    let n = keys::cmp::least(len, 1032);
+    let n = codec::limits::least(len, 1032);
     closed(s, &last[..n])
 }
 
@@ -475,7 +470,7 @@ fn addition_fits(word: &[u8], edition: u64, kind: u8, value: &[u8]) -> bool
 {
     let tag = both(edition < 0x0100_0000_0000_0000, kind <= 1);
     let value_fits = both(value.len() <= 32768, tag);
-    both(between(1, 1024, word.len()), value_fits)
+    both(codec::limits::within(1, 1024, word.len()), value_fits)
 }
 
 // The refusals 6, 2 and 3, or 0.
@@ -491,23 +486,12 @@ fn early(s: Builder, l: Lengths, fits: bool) -> u32
     if fits { 0 } else { 3 }
 }
 
-// Whether an internal key is below another.
-fn key_below(a: &[u8], b: &[u8]) -> bool
-    ensures { λ r. ⌜ r ≡ below (now (a .entry)) (now (b .entry)) ⌝ }
-{
-    match keys::key_types::cmp_internal_key(a, b) {
-        Ordering::Less => true,
-        Ordering::Equal => false,
-        Ordering::Greater => false,
-    }
-}
-
 // Whether the first len bytes of last are below a key.
 fn last_below(last: &[u8], len: usize, key: &[u8]) -> bool
     requires { ⌜ len ≤ length (now last) ⌝ }
     ensures { λ r. ⌜ r ≡ below (take len (now (last .entry))) (now (key .entry)) ⌝ }
 {
-    key_below(&last[..len], key)
+    keys::key_types::key_below(&last[..len], key)
 }
 
 // Whether a key is above the last one of the open block.
@@ -651,7 +635,7 @@ fn filter_blocks(
 ) -> Made
     ensures { λ r. ⌜ MadeFilters (choiceOf choice) (groupsUpTo made n (take waiting (now (hashes .entry)))) bytes made r (now (filters .entry)) (now (filters .exit)) (now (offsets .entry)) (now (offsets .exit)) ⌝ }
 {
-    let k = keys::cmp::least(waiting, hashes.len());
+    let k = codec::limits::least(waiting, hashes.len());
     filter::filter_block::make_filters(choice, &hashes[..k], n, filters, bytes, offsets, made)
 }
 

@@ -5,10 +5,15 @@ use mathlib.Core.List.{List, [], _∷_, _++_, map, head?, List·Memᴰ, List·Me
 use mathlib.Core.Bool.{Bool, not}
 use mathlib.Core.Option.{Option, none, some, Option·none-ne-some}
 use mathlib.Core.Logic.{⊎-elim}
+use native.Mathlib.Omega.{arith}
 use lib.Dec.{T}
-use lib.ListN.{getD, take, drop}
+use lib.ListN.{length, getD, take, drop}
 use Rattle.codec.specs.Maybe.{first}
 use Rattle.codec.proofs.Prelude.{is-true, is-false, decide}
+
+pub no-length : {A : Type 0} (xs : List A) → length xs ≡ 0 → xs ≡ []
+no-length [] e = refl
+no-length (x ∷ xs) e = absurd (omega arith)
 
 -- all are below a bound
 abbrev pub Below : ℕ → List ℕ → Type 0

@@ -2,7 +2,7 @@
 use Prim.Native.Nat.{ℕ, suc, _+_, _≤_, _<_}
 use mathlib.Core.Path.{_≡_, refl, sym, ap, ap₂, _∙_}
 use mathlib.Core.List.{List, [], _∷_, _++_, append-assoc}
-use native.Mathlib.Nat.{add-zero, add-suc, suc-add, add-assoc}
+use native.Mathlib.Nat.{zero-add, add-zero, add-suc, suc-add, add-assoc}
 use native.Mathlib.Decide.{decLe}
 use native.Mathlib.Omega.{arith}
 use lib.ListN.{length, take, drop, set, length-append, take-append-drop}
@@ -208,3 +208,20 @@ wrote-three {d} {at} {xs} {r} {e} {n} {ys} {r′} {e′} {n′} {zs} {r″} {e�
     let m = length-append ys zs in
     let k = length-append xs ys in
     rw append-assoc at (wrote-then d at (xs ++ ys) zs n′ r′ e′ r″ e″ (omega arith) (wrote-then d at xs ys n r e r′ e′ (omega arith) w p w′) p′ w″)
+
+-- ---- at the front
+
+pub put-start : (d bs : List ℕ) (n : ℕ) → length bs ≡ n → n ≤ length d → take n (put d 0 bs) ≡ bs
+put-start d bs n l h = rw (zero-add (length bs), l) at (put-front d 0 bs (omega arith))
+
+module _ (n : ℕ) {d e : List ℕ} {r : Written} (bs : List ℕ) (l : length d ≡ n) (k : length bs ≤ n) (w : Wrote d 0 bs r e) where
+  front-room : 0 + length bs ≤ length d
+  front-room = omega arith
+
+  pub front-never : r ≡ NoRoom → ⊥
+  front-never = wrote-never d 0 bs r e front-room w
+
+  pub front-put : {m : ℕ} → r ≡ At m → (m ≤ n) × ((length e ≡ n) × (take m e ≡ bs))
+  front-put {m} p =
+      let q : m ≡ 0 + length bs = wrote-next d 0 bs m r e front-room w p in
+      (omega (arith, front-room), (ap length (w .left) ∙ put-length d 0 bs ∙ l, rw (q, w .left) (put-front d 0 bs front-room)))

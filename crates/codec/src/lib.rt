@@ -4,6 +4,7 @@
 pub mod blockhandle;
 pub mod crc;
 pub mod fixed;
+pub mod limits;
 pub mod put;
 pub mod trailer;
 pub mod varint;

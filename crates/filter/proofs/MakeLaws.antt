@@ -74,11 +74,11 @@ module _ (c : Filtering) (gs : List (List ℕ)) (bytes made : ℕ) (f o : List �
 -- ---- which filters are made
 
 module _ (made n : ℕ) (hs : List ℕ) where
-  groups-none : n ≤ made → groupsUpTo made n hs ≡ []
+  pub groups-none : n ≤ made → groupsUpTo made n hs ≡ []
   unfolding groupsUpTo
   groups-none h = rw (le-leb n made h, groupsUpTo)
 
-  groups-some : made < n → groupsUpTo made n hs ≡ hs ∷ replicate (n - made - 1) []
+  pub groups-some : made < n → groupsUpTo made n hs ≡ hs ∷ replicate (n - made - 1) []
   unfolding groupsUpTo
   groups-some h = rw (lt-leb n made h, groupsUpTo)
 

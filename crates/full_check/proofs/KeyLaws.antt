@@ -1,19 +1,16 @@
 -- The keys of a block, one entry at a time: that they rise, and that a filter lets them through.
-use Prim.Native.Nat.{ℕ, _+_, _≤_, _<_}
+use Prim.Native.Nat.{ℕ, _<_}
 use mathlib.Core.Path.{_≡_, refl, ap, _∙_}
 use mathlib.Core.Bool.{Bool, true, false, _&&_}
 use mathlib.Core.List.{List, [], _∷_}
 use mathlib.Core.Option.{Option, some}
 use native.Mathlib.Omega.{arith}
 use lib.Dec.{eqb, isEq}
-use lib.ListN.{length, take, drop}
-use lib.Seq.{take-at}
+use lib.ListN.{length, take}
 use borrow.Author.Tests.{ne-eqb}
 use Rattle.codec.specs.declared.blockhandle.OneHandle.the-variants as OneCase
 use Rattle.codec.specs.Answers.{oneHandleAnswer}
-use Rattle.codec.specs.Put.{put}
 use Rattle.codec.specs.Varint.{Handle, oneHandle}
-use Rattle.codec.proofs.PutLaws.{put-room}
 use Rattle.codec.proofs.VarintCode.{no-one, a-one}
 use Rattle.codec.proofs.Prelude.{split}
 use Rattle.keys.specs.Order.{userOf, pointOf, byPoint, bytesBelow, below}
@@ -30,11 +27,6 @@ use Rattle.filter.specs.Filter.{hash}
 use Rattle.filter.specs.FilterBlock.{mayMatch}
 use Rattle.table.specs.Table.{Edge, follows, firstFollows, handleOf}
 use Rattle.full_check.specs.Steps.{lessOf, after, risesFrom, edgeOf, ordered, lets}
-
--- ---- a key at the front of a buffer
-
-pub front-put : (k x : List ℕ) (n : ℕ) → length x ≡ n → n ≤ length k → take n (put k 0 x) ≡ x
-front-put k x n l h = ap (take n) (put-room k 0 x (omega arith)) ∙ take-at x (drop (0 + length x) k) n l
 
 -- ---- one key after another
 

@@ -5,7 +5,7 @@ ghost use mathlib.Core.Option.{none, some};
 ghost use Prim.Native.Nat.{_≤_};
 ghost use lib.Dec.{isEq};
 ghost use lib.ListN.{length, take};
-ghost use Rattle.keys.specs.Order.{userOf, pointOf, byPoint, below};
+ghost use Rattle.keys.specs.Order.{userOf, pointOf, byPoint};
 ghost use Rattle.block.specs.Block.{Entry, pairsOf};
 ghost use Rattle.block.specs.Formed.{all, rises};
 ghost use Rattle.block.specs.Search.{kindOf, readable};
@@ -57,17 +57,6 @@ fn entries_end(s: &[u8]) -> usize
     }
 }
 
-// Whether an internal key is below another.
-fn key_below(a: &[u8], b: &[u8]) -> bool
-    ensures { λ r. ⌜ r ≡ below (now (a .entry)) (now (b .entry)) ⌝ }
-{
-    match keys::key_types::cmp_internal_key(a, b) {
-        Ordering::Less => true,
-        Ordering::Equal => false,
-        Ordering::Greater => false,
-    }
-}
-
 // Whether two internal keys are equal, kind ignored.
 fn same_point(a: &[u8], b: &[u8]) -> bool
     ensures { λ r. ⌜ r ≡ isEq (byPoint (pointOf (now (a .entry))) (pointOf (now (b .entry)))) ⌝ }
@@ -87,8 +76,8 @@ fn comes_after(kind: Kind, first: bool, a: &[u8], b: &[u8]) -> bool
         return true;
     }
     match kind {
-        Kind::Data => key_below(a, b),
-        Kind::Index => key_below(a, b),
+        Kind::Data => keys::key_types::key_below(a, b),
+        Kind::Index => keys::key_types::key_below(a, b),
         Kind::Metaindex => keys::cmp::below(a, b),
     }
 }
@@ -158,10 +147,10 @@ fn key_follows(first: bool, before: &[u8], last: &[u8], key: &[u8]) -> bool
     if first {
         return true;
     }
-    if key_below(last, key) {} else {
+    if keys::key_types::key_below(last, key) {} else {
         return false;
     }
-    if key_below(before, key) {} else {
+    if keys::key_types::key_below(before, key) {} else {
         return false;
     }
     if same_point(before, last) {
@@ -207,7 +196,7 @@ fn in_order(
     match keys_rise(d, Kind::Data, last) {
         Rising::No => Rising::No,
         Rising::Yes(n) => {
-            if key_below(bound, &last[..n]) {
+            if keys::key_types::key_below(bound, &last[..n]) {
                 Rising::No
             } else {
                 Rising::Yes(n)

@@ -8,6 +8,7 @@ ghost use Rattle.codec.specs.Put.{Wrote};
 ghost use Rattle.keys.specs.Answers.{orderAnswer};
 ghost use Rattle.keys.specs.Order.{byBytes, bytesBelow, shortestSep, userSep, lastTag, separator, shortSucc};
 ghost use Rattle.keys.specs.Plan.{bigOf, Raisable, raised, RaisesFirst, RaisesLast, sepBytes, SepFits, Planned, FirstLow};
+use codec::limits::least;
 use codec::put::Written;
 
 pub enum Ordering {
@@ -27,13 +28,6 @@ enum Sep {
     Whole,
     Longer,
     Raised { at: usize, len: usize },
-}
-
-// The smaller of two numbers.
-pub fn least(a: usize, b: usize) -> usize
-    ensures { λ r. ⌜ r ≡ min a b ⌝ }
-{
-    if a < b { a } else { b }
 }
 
 // One number against another.

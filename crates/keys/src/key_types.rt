@@ -6,7 +6,7 @@ ghost use lib.ListN.{length};
 ghost use Rattle.codec.specs.Bytes.{numberOf};
 ghost use Rattle.codec.specs.Put.{Wrote};
 ghost use Rattle.keys.specs.Answers.{orderAnswer, kindAnswer, keyAnswer};
-ghost use Rattle.keys.specs.Order.{userOf, tagOf, internal, pointOf, byPoint};
+ghost use Rattle.keys.specs.Order.{userOf, tagOf, internal, pointOf, byPoint, below};
 use crate::cmp::Ordering;
 use codec::fixed::U64Read;
 use codec::put::Written;
@@ -150,4 +150,15 @@ pub fn cmp_internal_key(a: &[u8], b: &[u8]) -> Ordering
     ensures { λ r. ⌜ r ≡ orderAnswer (byPoint (pointOf (now (a .entry))) (pointOf (now (b .entry)))) ⌝ }
 {
     cmp_target(a, user_key(b), tag_of(b) / 256)
+}
+
+// Whether a key is below another.
+pub fn key_below(a: &[u8], b: &[u8]) -> bool
+    ensures { λ r. ⌜ r ≡ below (now (a .entry)) (now (b .entry)) ⌝ }
+{
+    match cmp_internal_key(a, b) {
+        Ordering::Less => true,
+        Ordering::Equal => false,
+        Ordering::Greater => false,
+    }
 }

@@ -1,28 +1,26 @@
 -- From what a table tells to what a call answers: refusals first, and the key handed over.
-use Prim.Native.Nat.{ℕ, _+_, _-_, _≤_, _<_, _^_}
+use Prim.Native.Nat.{ℕ, _-_, _≤_, _<_}
 use mathlib.Core.Path.{_≡_, refl, sym, _∙_, ap, subst}
-use mathlib.Core.List.{List, [], _∷_, head?}
+use mathlib.Core.List.{List, []}
 use mathlib.Core.Bool.{Bool, true, false, false≢true}
 use mathlib.Core.Option.{Option, none, some}
 use native.Mathlib.Omega.{arith}
-use lib.Dec.{T, leb, leb→le, ltb}
+use lib.Dec.{T}
 use lib.ListN.{length, take, drop, length-take, length-drop}
 use lib.Seq.{take-all}
-use borrow.Author.Tests.{le-leb, lt-leb}
 use Rattle.codec.specs.Bytes.{part}
 use Rattle.codec.specs.Put.{put}
-use Rattle.codec.proofs.Prelude.{test, and-r}
-use Rattle.codec.proofs.PutLaws.{put-room}
+use Rattle.codec.proofs.Lists.{no-length}
 use Rattle.keys.specs.Order.{Point}
-use Rattle.block.specs.Formed.{within}
 use Rattle.table.specs.declared.footer.FooterRead.the-variants as FooterCase
 use Rattle.table.specs.Answers.{footerAnswer}
 use Rattle.table.specs.Checked.{Checked, pass, refuse, _>>=_, ask, orRefuse}
-use Rattle.table.specs.Table.{Found, Footer, readBlocks, footer, footerHandles, placed, opened, fullCheck}
+use Rattle.table.specs.Table.{Found, Footer, footer, footerHandles, placed, opened, fullCheck}
 use Rattle.table.specs.Promise.{Passed}
 use Rattle.table.specs.Reads
-use Rattle.table.specs.Reads.{Answer, refused, nothing, found, deleted, pointFits, foundOr, seekSays, lookupSays, stepSays, listed, bufferAfter}
+use Rattle.table.specs.Reads.{Answer, refused, pointFits, seekSays, lookupSays, stepSays, listed, bufferAfter}
 use Rattle.table.specs.Runs.{overlay}
+use Rattle.table.proofs.OverlayLaws.{overlay-none, overlay-put}
 use Rattle.table.proofs.FooterLaws.{no-footer, a-footer}
 use Rattle.table.proofs.CheckedLaws.{refuse-pass}
 use Rattle.reader.specs.declared.table_reader.Entry.{Entry}
@@ -31,109 +29,53 @@ use Rattle.reader.specs.declared.table_reader.Found.the-variants as Foun
 use Rattle.reader.specs.declared.table_reader.Sought.{Sought}
 use Rattle.reader.specs.declared.table_reader.Sought.the-variants as SoughtCase
 use Rattle.reader.specs.Answers.{entryOf, soughtOf, lookedOf, Seeks, Looks, Steps}
-use Rattle.reader.specs.Parts.{Indexed, Named, Holds, Tells, IsLater, orThen, OrLater, Is, Short, Kinded, IsKinded}
-use Rattle.reader.proofs.LaterLaws.{apart}
-use Rattle.reader.proofs.FindLaws.{tells-with}
+use Rattle.reader.specs.Parts.{Indexed, Named, Holds, Tells, IsLater, orThen, OrLater, Is, Kinded, IsKinded}
+use Rattle.reader.proofs.AnswerLaws.{shows, by-entry}
 
 -- ---- an answer, or what comes later
 
-or-same : (a b : Answer) → (soughtOf a ≡ SoughtCase.None → ⊥) → a ≡ orThen a b
-unfolding orThen soughtOf
-or-same (refused n) b h = refl
-or-same nothing b h = absurd (h refl)
-or-same (found x) b h = refl
-or-same (deleted x) b h = refl
-
-is-nothing : (a : Answer) → soughtOf a ≡ SoughtCase.None → a ≡ nothing
-unfolding soughtOf
-is-nothing (refused n) e = apart cc
-is-nothing nothing e = refl
-is-nothing (found x) e = apart cc
-is-nothing (deleted x) e = apart cc
-
 module _ (t : List ℕ) (offset size start : ℕ) {r : Sought} where
-  pub or-kept : {q : Sought} {b : List ℕ} → r ≡ q → (q ≡ SoughtCase.None → ⊥) → (a : Answer) → r ≡ soughtOf a → Holds a b → T (listed t a) → Tells soughtOf t (OrLater t offset size start a) q b
-  or-kept e n a shown holds inside = record { answer = a; shown = sym e ∙ shown; holds = holds; inside = inside; is = λ p s. or-same a _ (λ g. n (sym e ∙ shown ∙ g)) }
+  or-kept : {q : Sought} {b : List ℕ} (a : Answer) → r ≡ q → r ≡ soughtOf a → Holds a b → T (listed t a) → ((c : Answer) → a ≡ orThen a c) → Tells soughtOf t (OrLater t offset size start a) q b
+  or-kept a e shown holds inside same = record { answer = a; shown = sym e ∙ shown; holds = holds; inside = inside; is = λ p s. same _ }
+
+  pub or-entry : {e : Entry} {b : List ℕ} → r ≡ SoughtCase.Entry e → (a : Answer) → r ≡ soughtOf a → Holds a b → T (listed t a) → Tells soughtOf t (OrLater t offset size start a) (SoughtCase.Entry e) b
+  unfolding orThen
+  or-entry {b = b} e a shown holds inside = or-kept a e shown holds inside (λ c. by-entry (λ (a : Answer). a ≡ orThen a c) b a shown e holds (λ x s k. refl) (λ x s k. refl))
+
+  pub or-refused : {n : ℕ} {b : List ℕ} → r ≡ SoughtCase.Refused n → (a : Answer) → r ≡ soughtOf a → Holds a b → T (listed t a) → Tells soughtOf t (OrLater t offset size start a) (SoughtCase.Refused n) b
+  unfolding orThen
+  or-refused e a shown holds inside = or-kept a e shown holds inside (λ c. rw (shows a shown e))
 
   pub or-then : {q : Sought} {b′ : List ℕ} → r ≡ SoughtCase.None → Tells soughtOf t (IsLater t offset size start) q b′ → (a : Answer) → r ≡ soughtOf a → Tells soughtOf t (OrLater t offset size start a) q b′
   unfolding orThen
-  or-then e w a shown = tells-with (λ c is p s. is p s ∙ ap (λ (x : Answer). orThen x (foundOr (head? (readBlocks t (s .after))))) (sym (is-nothing a (sym shown ∙ e)))) w
-
-pub entry-apart : {e : Entry} → SoughtCase.Entry e ≡ SoughtCase.None → ⊥
-entry-apart h = apart cc
-
-pub refused-apart : {n : ℕ} → SoughtCase.Refused n ≡ SoughtCase.None → ⊥
-refused-apart h = apart cc
+  or-then e w a shown = rw (shows a shown e) w
 
 -- ---- the key handed over
 
-pub overlay-put : (k x : List ℕ) → length x ≤ length k → put k 0 x ≡ overlay x k
-unfolding overlay
-overlay-put k x h = let n : 0 + length x ≡ length x = omega arith in rw n at (put-room k 0 x (omega arith))
-
-found-key : (a : Answer) {e : Entry} → soughtOf a ≡ SoughtCase.Entry e → (b : List ℕ) → Holds a b → (k : List ℕ) → e .«key_len» ≤ length k → put k 0 (take (e .«key_len») b) ≡ bufferAfter a k
-unfolding soughtOf entryOf bufferAfter
-found-key (refused n) s b h k l = apart cc
-found-key nothing s b h k l = apart cc
-found-key (found x) {e} s b h k l =
-    let n : length (x .key) ≡ e .«key_len» = cc in
-    rw (← n) (ap (put k 0) h ∙ overlay-put k (x .key) (omega arith))
-found-key (deleted x) {e} s b h k l =
-    let n : length (x .key) ≡ e .«key_len» = cc in
-    rw (← n) (ap (put k 0) h ∙ overlay-put k (x .key) (omega arith))
-
 module _ {r : Sought} (k b : List ℕ) where
   pub hand-entry : {e : Entry} → r ≡ SoughtCase.Entry e → e .«key_len» ≤ length k → {k′ : List ℕ} → k′ ≡ put k 0 (take (e .«key_len») b) → (a : Answer) → r ≡ soughtOf a → Holds a b → k′ ≡ bufferAfter a k
-  hand-entry e l w a shown holds = w ∙ found-key a (sym shown ∙ e) b holds k l
+  unfolding entryOf bufferAfter
+  hand-entry {e} is l {k′} w a shown holds = by-entry (λ (a : Answer). k′ ≡ bufferAfter a k) b a shown is holds go go
+    where
+      go : (x : Found) → entryOf x ≡ e → take (e .«key_len») b ≡ x .key → k′ ≡ overlay (x .key) k
+      go x s key = let n : length (x .key) ≡ e .«key_len» = ap (λ (y : Entry). y .«key_len») s in w ∙ ap (put k 0) key ∙ overlay-put [] (x .key) k k 0 refl (overlay-none k) (omega arith)
 
   pub hand-none : r ≡ SoughtCase.None → (a : Answer) → r ≡ soughtOf a → Holds a b → k ≡ bufferAfter a k
   unfolding bufferAfter
-  hand-none e a shown holds = rw (is-nothing a (sym shown ∙ e))
+  hand-none e a shown holds = rw (shows a shown e)
 
   pub hand-refused : {n : ℕ} → r ≡ SoughtCase.Refused n → (a : Answer) → r ≡ soughtOf a → Holds a b → k ≡ bufferAfter a k
-  unfolding bufferAfter soughtOf
-  hand-refused {n} e a shown holds = go a (sym shown ∙ e)
-    where
-      go : (a : Answer) → soughtOf a ≡ SoughtCase.Refused n → k ≡ bufferAfter a k
-      go (refused m) s = refl
-      go nothing s = apart cc
-      go (found x) s = apart cc
-      go (deleted x) s = apart cc
-
-pub tells-short : {t : List ℕ} {told : Answer → Type 0} {r : Sought} {b : List ℕ} → Tells soughtOf t told r b → Short r
-unfolding soughtOf entryOf listed
-tells-short {t} {told} {r} w = subst Short (sym (w .shown)) (go (w .answer) (w .inside))
-  where
-    go : (a : Answer) → T (listed t a) → Short (soughtOf a)
-    go (refused n) i = tt
-    go nothing i = tt
-    go (found x) i = leb→le (length (x .key)) 1032 (and-r (leb (x .valueAt + length (x .value)) (length t)) (leb (length (x .key)) 1032) i)
-    go (deleted x) i = leb→le (length (x .key)) 1032 (and-r (leb (x .valueAt + length (x .value)) (length t)) (leb (length (x .key)) 1032) i)
+  unfolding bufferAfter
+  hand-refused e a shown holds = rw (shows a shown e)
 
 -- ---- 3 and 2
 
-module _ (w : List ℕ) (e : ℕ) where
-  abbrev point : Point
-  point = record { word = w; edition = e }
-
-  pub fits-short : length w < 1 → false ≡ pointFits point
-  unfolding pointFits within
-  fits-short h = rw (lt-leb 1 (length w) h)
-
-  pub fits-long : 1024 < length w → false ≡ pointFits point
-  unfolding pointFits within
-  fits-long h = test (leb 1 (length w)) (λ t. rw (t, lt-leb (length w) 1024 h)) (λ t. rw t)
-
-  pub fits-edition : 1 ≤ length w → length w ≤ 1024 → ltb e (2 ^ 56) ≡ pointFits point
-  unfolding pointFits within
-  fits-edition h l = rw (le-leb 1 (length w) h, le-leb (length w) 1024 l)
-
 -- 3 and 2 of a seek and of a lookup alike
-three : (t : List ℕ) (p : Point) (says : Answer) (k : List ℕ) → pointFits p ≡ false → Reads.Sought t p says k (refused 3) k
+pub three : (t : List ℕ) (p : Point) (says : Answer) (k : List ℕ) → pointFits p ≡ false → Reads.Sought t p says k (refused 3) k
 unfolding bufferAfter
 three t p says k e = record { three = λ f. refl; two = λ f l. absurd (false≢true (sym e ∙ f)); table = λ f l. absurd (false≢true (sym e ∙ f)); buffer = refl }
 
-two : (t : List ℕ) (p : Point) (says : Answer) (k : List ℕ) → pointFits p ≡ true → length k < 1032 → Reads.Sought t p says k (refused 2) k
+pub two : (t : List ℕ) (p : Point) (says : Answer) (k : List ℕ) → pointFits p ≡ true → length k < 1032 → Reads.Sought t p says k (refused 2) k
 unfolding bufferAfter
 two t p says k e l = record { three = λ f. absurd (false≢true (sym f ∙ e)); two = λ f l. refl; table = λ f m. absurd (omega arith); buffer = refl }
 
@@ -141,21 +83,14 @@ two t p says k e l = record { three = λ f. absurd (false≢true (sym f ∙ e));
 tabled : (t : List ℕ) (p : Point) {says : Answer} {k : List ℕ} {a : Answer} {k′ : List ℕ} → pointFits p ≡ true → 1032 ≤ length k → Reads.Of t says a → k′ ≡ bufferAfter a k → Reads.Sought t p says k a k′
 tabled t p f l of left = record { three = λ g. absurd (false≢true (sym g ∙ f)); two = λ g m. absurd (omega arith); table = λ g m. of; buffer = left }
 
-pub seek-three : (t : List ℕ) (p : Point) (k : List ℕ) → pointFits p ≡ false → Seeks t p k (SoughtCase.Refused 3) k
+-- a refusal, as each shows it
+pub seek-refused : {t : List ℕ} {p : Point} {k : List ℕ} {n : ℕ} → Reads.Sought t p (seekSays t p) k (refused n) k → Seeks t p k (SoughtCase.Refused n) k
 unfolding soughtOf
-seek-three t p k e = record { answer = refused 3; shown = refl; is = three t p (seekSays t p) k e }
+seek-refused {n = n} w = record { answer = refused n; shown = refl; is = w }
 
-pub look-three : (t : List ℕ) (p : Point) (k : List ℕ) → pointFits p ≡ false → Looks t p k (FoundCase.Refused 3) k
+pub look-refused : {t : List ℕ} {p : Point} {k : List ℕ} {n : ℕ} → Reads.Sought t p (lookupSays t p) k (refused n) k → Looks t p k (FoundCase.Refused n) k
 unfolding lookedOf
-look-three t p k e = record { answer = refused 3; shown = refl; is = three t p (lookupSays t p) k e }
-
-pub seek-two : (t : List ℕ) (p : Point) (k : List ℕ) → pointFits p ≡ true → length k < 1032 → Seeks t p k (SoughtCase.Refused 2) k
-unfolding soughtOf
-seek-two t p k e l = record { answer = refused 2; shown = refl; is = two t p (seekSays t p) k e l }
-
-pub look-two : (t : List ℕ) (p : Point) (k : List ℕ) → pointFits p ≡ true → length k < 1032 → Looks t p k (FoundCase.Refused 2) k
-unfolding lookedOf
-look-two t p k e l = record { answer = refused 2; shown = refl; is = two t p (lookupSays t p) k e l }
+look-refused {n = n} w = record { answer = refused n; shown = refl; is = w }
 
 pub step-two : (t : List ℕ) (i at : ℕ) (k : List ℕ) → length k < 1032 → Steps t i at k (SoughtCase.Refused 2) k
 unfolding soughtOf bufferAfter
@@ -207,13 +142,9 @@ of-answer t i a is inside = record { footed = λ n f. absurd (refuse-pass (sym f
 
 module _ (t : List ℕ) (k : List ℕ) (l : 1032 ≤ length k) where
   module _ {n : ℕ} (e : footerAnswer (footer t) ≡ FooterCase.Refused n) where
-    pub seek-footed : (p : Point) → pointFits p ≡ true → Seeks t p k (SoughtCase.Refused n) k
-    unfolding soughtOf bufferAfter
-    seek-footed p f = record { answer = refused n; shown = refl; is = tabled t p f l (of-refused t (seekSays t p) (no-footer t e)) refl }
-
-    pub look-footed : (p : Point) → pointFits p ≡ true → Looks t p k (FoundCase.Refused n) k
-    unfolding lookedOf bufferAfter
-    look-footed p f = record { answer = refused n; shown = refl; is = tabled t p f l (of-refused t (lookupSays t p) (no-footer t e)) refl }
+    pub footed : (p : Point) {says : Answer} → pointFits p ≡ true → Reads.Sought t p says k (refused n) k
+    unfolding bufferAfter
+    footed p {says} f = tabled t p f l (of-refused t says (no-footer t e)) refl
 
     pub step-footed : (i at : ℕ) → Steps t i at k (SoughtCase.Refused n) k
     unfolding soughtOf bufferAfter
@@ -232,10 +163,6 @@ module _ (t : List ℕ) (k : List ℕ) (l : 1032 ≤ length k) where
         record { answer = w .answer; shown = same ∙ w .shown; is = record { two = λ m. absurd (omega arith); table = λ m. of-answer t i (w .answer) (w .is) (w .inside); buffer = handed (w .answer) (w .shown) (w .holds) } }
 
 -- ---- a value
-
-no-length : (xs : List ℕ) → length xs ≡ 0 → xs ≡ []
-no-length [] e = refl
-no-length (x ∷ xs) e = absurd (omega arith)
 
 module _ (t : List ℕ) (from len : ℕ) where
   pub value-past : length t < from → take (length t - length t) (drop (length t) t) ≡ part t from len

@@ -11,20 +11,19 @@ use lib.Seq.{length-take-le}
 use borrow.Author.Tests.{le-leb}
 use Rattle.codec.specs.Bytes.{part}
 use Rattle.codec.specs.Maybe.{first}
-use Rattle.codec.specs.Put.{put}
 use Rattle.codec.specs.Varint.{Handle}
 use Rattle.codec.proofs.BytesLaws.{part-length, part-part, part-most, part-between}
 use Rattle.codec.proofs.Lists.{All, Pairs, all-mem, first-yes, first-no}
 use Rattle.codec.proofs.MaybeLaws.{getting, giving}
 use Rattle.codec.proofs.Prelude.{test, and-i, true-is, false-is}
-use Rattle.codec.proofs.PutLaws.{put-front}
+use Rattle.codec.proofs.PutLaws.{put-start}
 use Rattle.keys.specs.Order.{Point}
 use Rattle.block.specs.declared.block.Found.{Found}
 use Rattle.block.specs.declared.block.Found.the-variants as FoundCase
 use Rattle.block.specs.declared.block.Which.{Which}
 use Rattle.block.specs.declared.block.Which.the-variants as WhichCase
 use Rattle.block.specs.Block.{Pair, Entry}
-use Rattle.block.specs.Search.{readable, reaches, seekIn, firstIn, pick, placeIn, foundAnswer, keyLeft, bufferLeft, inOrder, Said}
+use Rattle.block.specs.Search.{readable, reaches, seekIn, firstIn, pick, placeIn, foundAnswer, keyLeft, bufferLeft, inOrder, anyOrder, Said}
 use Rattle.block.proofs.ReadLaws.{StartsBefore, block-starts, ValueIn, block-values}
 use Rattle.table.specs.Table.{endsBefore, contents}
 use Rattle.table.specs.Reads.{Answer, refused, nothing, found, listed}
@@ -75,10 +74,21 @@ picks-place which at (x ∷ xs) e h =
     (λ t. picked which x xs (some-in (rw (t, placeIn) at h)))
     (λ t. List·Memᴰ·tail (picks-place which at xs e (rw (t, placeIn) at h)))
 
+-- an order that a search asks for, which entries in order have
+abbrev pub Asks : (List Entry → Bool) → Type 0
+Asks ordered = (es : List Entry) → inOrder es ≡ true → ordered es ≡ true
+
+pub asks-order : Asks inOrder
+asks-order es e = e
+
+pub asks-none : Asks anyOrder
+unfolding anyOrder
+asks-none es e = refl
+
 -- ---- the answer
 
 -- by what was found, and the key at the front of the buffer
-unfoldable pub answerOf : List ℕ → ℕ → ℕ → Found → List ℕ → Answer
+unfoldable answerOf : List ℕ → ℕ → ℕ → Found → List ℕ → Answer
 answerOf t index offset (FoundCase.Entry start n at v) b =
     found (record { indexStart = index; start = start; key = take n b; valueAt = offset + at; value = part t (offset + at) v })
 answerOf t index offset FoundCase.None b = nothing
@@ -87,7 +97,7 @@ answerOf t index offset FoundCase.Bad b = refused 10
 
 module _ (t : List ℕ) (h : Handle) (index : ℕ) (placed : endsBefore (length t) (h .offset) (h .size) ≡ true) where
   -- its numbers are those that the code gives, and its value lies in the table
-  pub hit-tells : {says : List Entry → Option (Option Entry)} {ordered : List Entry → Bool} {k : List ℕ} {f : Found} {k′ : List ℕ}
+  hit-tells : {says : List Entry → Option (Option Entry)} {ordered : List Entry → Bool} {k : List ℕ} {f : Found} {k′ : List ℕ}
       → Said (contents t h) says ordered k f k′ → length k′ ≡ 1032 → Tells soughtOf t (λ a. a ≡ answerOf t index (h .offset) f k′) (hitOf index (h .offset) f) k′
   unfolding contents answerOf hitOf soughtOf entryOf listed
   hit-tells {k = k} {f = f} {k′ = k′} s long = go f (s .inside)
@@ -131,18 +141,13 @@ readable-tells s p =
 pub room : (k : List ℕ) (x : Entry) → length k ≡ 1032 → T (leb (length (x .key)) 1032) → leb (length (x .key)) (length k) ≡ true
 room k x long t = le-leb (length (x .key)) (length k) (omega (arith, leb→le (length (x .key)) 1032 t))
 
--- the key and the value of an entry, as they stand in the buffer and in the table
-key-is : (k : List ℕ) (x : Entry) → length k ≡ 1032 → T (leb (length (x .key)) 1032) → take (length (x .key)) (put k 0 (x .key)) ≡ x .key
-key-is k x long t =
-    let n : 0 + length (x .key) ≡ length (x .key) = omega arith in
-    rw n at (put-front k 0 (x .key) (omega (arith, leb→le (length (x .key)) 1032 t)))
-
+-- the value of an entry, as it stands in the table
 value-is : (t : List ℕ) (h : Handle) (x : Entry) → ValueIn (contents t h) x → part t (h .offset + x .valueAt) (length (x .value)) ≡ x .value
 unfolding contents
 value-is t h x v = sym (v .is ∙ part-part t (h .offset) (h .size) (x .valueAt) (length (x .value)) (omega (arith, v .ends, part-most t (h .offset) (h .size))))
 
 module _ (t : List ℕ) (h : Handle) (index : ℕ) where
-  pub hit-is : {says : List Entry → Option (Option Entry)} {ordered : List Entry → Bool} {k : List ℕ} {f : Found} {k′ : List ℕ} → Picks says
+  hit-is : {says : List Entry → Option (Option Entry)} {ordered : List Entry → Bool} {k : List ℕ} {f : Found} {k′ : List ℕ} → Picks says
       → Said (contents t h) says ordered k f k′ → length k ≡ 1032 → (es : List Entry) → readable (contents t h) ≡ some es → ordered es ≡ true
       → answerOf t index (h .offset) f k′ ≡ sayAt index (h .offset) (says es)
   unfolding answerOf sayAt foundAnswer bufferLeft keyLeft
@@ -155,15 +160,15 @@ module _ (t : List ℕ) (h : Handle) (index : ℕ) where
       go (some (some x)) e =
           let r = readable-tells (contents t h) read in
           let m = picks es x e in
-          rw (room k x long (all-mem (r .short) m), foundAnswer, key-is k x long (all-mem (r .short) m), value-is t h x (all-mem (r .values) m)) refl
+          rw (room k x long (all-mem (r .short) m), foundAnswer, put-start k (x .key) (length (x .key)) refl (omega (arith, long, leb→le (length (x .key)) 1032 (all-mem (r .short) m))), value-is t h x (all-mem (r .values) m)) refl
 
   -- what was found in the block, of a kind of search on it
-  pub hit-says : {says : List Entry → Option (Option Entry)} {k : List ℕ} {f : Found} {k′ : List ℕ} → Picks says → endsBefore (length t) (h .offset) (h .size) ≡ true
-      → Said (contents t h) says inOrder k f k′ → length k ≡ 1032 → length k′ ≡ 1032 → {r : Sought} → r ≡ hitOf index (h .offset) f → Tells soughtOf t (Says t index (h .offset) (h .size) says) r k′
+  pub hit-says : {says : List Entry → Option (Option Entry)} {ordered : List Entry → Bool} {k : List ℕ} {f : Found} {k′ : List ℕ} → Picks says → Asks ordered → endsBefore (length t) (h .offset) (h .size) ≡ true
+      → Said (contents t h) says ordered k f k′ → length k ≡ 1032 → length k′ ≡ 1032 → {r : Sought} → r ≡ hitOf index (h .offset) f → Tells soughtOf t (Says t index (h .offset) (h .size) says) r k′
   unfolding contents
-  hit-says {says} {k} {f} {k′} picks placed s long long′ is =
+  hit-says picks asks placed s long long′ is =
       let w = hit-tells t h index placed s long′ in
-      record { answer = w .answer; shown = is ∙ w .shown; holds = w .holds; inside = w .inside; is = λ es read order. w .is ∙ hit-is picks s long es read order }
+      record { answer = w .answer; shown = is ∙ w .shown; holds = w .holds; inside = w .inside; is = λ es read order. w .is ∙ hit-is picks s long es read (asks es order) }
 
 -- ---- what the parts of a read ask for
 

@@ -1,5 +1,5 @@
 -- No entry of a passed table is below the least point: a walk from it on is over the whole table.
-use Prim.Native.Nat.{ℕ, zero, suc, _+_, _-_, _≤_, _<_, _^_, compare, Ordering·eq, Ordering·gt, compare·suc-zero}
+use Prim.Native.Nat.{ℕ, zero, suc, _-_, _≤_, _<_, _^_, compare, Ordering·eq, Ordering·gt, compare·suc-zero}
 use mathlib.Core.Path.{_≡_, refl, ap}
 use mathlib.Core.List.{List, [], _∷_, _++_}
 use mathlib.Core.Bool.{false}
@@ -16,7 +16,8 @@ use Rattle.codec.proofs.Prelude.{split, is-true, and-l}
 use Rattle.keys.specs.Order.{andThen, isLess, byBytes, userOf, tagOf, seqOf, pointOf, byPoint}
 use Rattle.keys.proofs.OrderLaws.{compare-is, compare-gt}
 use Rattle.block.specs.Block.{Entry, Block, block}
-use Rattle.block.specs.Formed.{dataBlock, within, entryFits}
+use Rattle.codec.specs.Limits.{within}
+use Rattle.block.specs.Formed.{dataBlock, entryFits}
 use Rattle.block.proofs.ReadLaws.{entry-read, Reads, block-read}
 use Rattle.table.specs.Table.{Found, contents, handleOf, entriesAt, foundIn, foundsOf, readBlocks}
 use Rattle.table.specs.Promise.{notBelow}

@@ -1,3 +1,4 @@
+pub mod AnswerLaws
 pub mod PassedLaws
 pub mod HitLaws
 pub mod LocateLaws

@@ -1,7 +1,7 @@
 -- A lookup through the index and the filter: the answer is that of the plain reading.
 use Prim.Native.Nat.{ℕ, _%_}
-use mathlib.Core.Path.{_≡_, refl, sym, _∙_, ap, ap₂, subst}
-use mathlib.Core.List.{List, [], _∷_, _++_, map, List·Memᴰ·head, Memᴰ·append-right}
+use mathlib.Core.Path.{_≡_, refl, sym, _∙_, ap, subst}
+use mathlib.Core.List.{List, _∷_, List·Memᴰ·head, Memᴰ·append-right}
 use mathlib.Core.Bool.{Bool, true, false, not, false≢true}
 use mathlib.Core.Option.{Option, none, some, Option·map}
 use lib.Dec.{T, eqb}
@@ -9,7 +9,6 @@ use lib.ListN.{length, take}
 use Rattle.codec.specs.Bytes.{sameBytes}
 use Rattle.codec.specs.Maybe.{first}
 use Rattle.codec.specs.Varint.{Handle}
-use Rattle.codec.proofs.Lists.{all-mem}
 use Rattle.codec.proofs.Prelude.{test, is-true}
 use Rattle.keys.specs.Order.{Point, userOf, tagOf, kindOf}
 use Rattle.block.specs.declared.block.Found.{Found}
@@ -25,10 +24,9 @@ use Rattle.table.specs.Answers.{bloomAnswer, BloomRead}
 use Rattle.table.specs.Checked.{pass}
 use Rattle.table.specs.Table
 use Rattle.table.specs.Table.{Footer, endsBefore, placed, sealed, contents, blockOf, metaindexOf, bloomHandle, filterOf, mayHold, Opened, opened, handleOf, entriesAt, foundIn, foundsOf}
-use Rattle.table.specs.Promise.{Passed, notBelow, lookupOf}
+use Rattle.table.specs.Promise.{Passed, lookupOf}
 use Rattle.table.specs.Reads.{Answer, refused, nothing, found, deleted, byKind, lookupSays, listed}
 use Rattle.table.proofs.CheckedLaws.{passing, asking, pass-same, orRefuse-pass}
-use Rattle.table.proofs.SearchLaws
 use Rattle.table.proofs.SearchLaws.{onlyWord, for-by-reach, lookup-beyond, lookup-law, filter-law}
 use Rattle.table.proofs.StandLaws.{Laid, Settled}
 use Rattle.reader.specs.declared.table_reader.Entry as EntryStruct
@@ -41,9 +39,11 @@ use Rattle.reader.specs.declared.table_reader.Sought.{Sought}
 use Rattle.reader.specs.declared.table_reader.Sought.the-variants as SoughtCase
 use Rattle.reader.specs.Answers.{entryOf, soughtOf, lookedOf}
 use Rattle.reader.specs.Parts.{Indexed, Named, blockAt, Sees, sayAt, Says, Holds, Tells, heldOf, Fair, HeldIs, ofWord, Kinded, IsKinded}
-use Rattle.reader.proofs.PassedLaws.{BlockReads, passed-opens}
-use Rattle.reader.proofs.LaterLaws.{apart, tells-refused, tells-none}
-use Rattle.reader.proofs.FindLaws.{by-split, never-refused, never-no-place, first-found}
+use Rattle.reader.proofs.AnswerLaws.{apart, shows, by-entry, tells-none}
+use Rattle.reader.proofs.PassedLaws.{passed-opens}
+use Rattle.reader.proofs.LocateLaws.{block-said}
+use Rattle.reader.proofs.LaterLaws.{laid-from}
+use Rattle.reader.proofs.FindLaws.{all-below, block-split, first-found}
 
 -- ---- the filter
 
@@ -141,131 +141,74 @@ kind-shown x = test (eqb (kindOf (x .key)) 0) (λ t. rw (t, byKind)) (λ t. rw (
 module _ {r : Sought} (w : List ℕ) (a : Answer) (shown : r ≡ soughtOf a) where
   pub word-refused : {n : ℕ} → r ≡ SoughtCase.Refused n → SoughtCase.Refused n ≡ soughtOf (ofWord w a)
   unfolding soughtOf ofWord
-  word-refused {n} e = go a (sym shown ∙ e)
-    where
-      go : (a : Answer) → soughtOf a ≡ SoughtCase.Refused n → SoughtCase.Refused n ≡ soughtOf (ofWord w a)
-      go (refused m) s = sym s
-      go nothing s = apart cc
-      go (found x) s = apart cc
-      go (deleted x) s = apart cc
+  word-refused e = rw (shows a shown e)
 
   pub word-none : r ≡ SoughtCase.None → SoughtCase.None ≡ soughtOf (ofWord w a)
   unfolding soughtOf ofWord
-  word-none e = go a (sym shown ∙ e)
-    where
-      go : (a : Answer) → soughtOf a ≡ SoughtCase.None → SoughtCase.None ≡ soughtOf (ofWord w a)
-      go (refused m) s = apart cc
-      go nothing s = refl
-      go (found x) s = apart cc
-      go (deleted x) s = apart cc
+  word-none e = rw (shows a shown e)
 
   module _ (b : List ℕ) {e : EntryStruct.Entry} (is : r ≡ SoughtCase.Entry e) where
+    -- whether the key is of the word, by the bytes in the buffer
+    of-key : {o : Bool} {k : List ℕ} → o ≡ sameBytes (userOf (take (e .«key_len») b)) w → take (e .«key_len») b ≡ k → sameBytes (userOf k) w ≡ o
+    of-key f k-is = ap (λ (k : List ℕ). sameBytes (userOf k) w) (sym k-is) ∙ sym f
+
     pub word-other : false ≡ sameBytes (userOf (take (e .«key_len») b)) w → Holds a b → SoughtCase.None ≡ soughtOf (ofWord w a)
-    unfolding soughtOf ofWord entryOf
-    word-other f = go a (sym shown ∙ is)
+    unfolding soughtOf ofWord
+    word-other f holds = by-entry (λ (a : Answer). SoughtCase.None ≡ soughtOf (ofWord w a)) b a shown is holds go go
       where
-        go : (a : Answer) → soughtOf a ≡ SoughtCase.Entry e → Holds a b → SoughtCase.None ≡ soughtOf (ofWord w a)
-        go (refused m) s h = apart cc
-        go nothing s h = apart cc
-        go (found x) s h =
-            let n : length (x .key) ≡ e .«key_len» = cc in
-            let o : sameBytes (userOf (x .key)) w ≡ false = ap (λ (k : List ℕ). sameBytes (userOf k) w) (sym h ∙ ap (λ (m : ℕ). take m b) n) ∙ sym f in
-            rw (o, ofWord)
-        go (deleted x) s h =
-            let n : length (x .key) ≡ e .«key_len» = cc in
-            let o : sameBytes (userOf (x .key)) w ≡ false = ap (λ (k : List ℕ). sameBytes (userOf k) w) (sym h ∙ ap (λ (m : ℕ). take m b) n) ∙ sym f in
-            rw (o, ofWord)
+        go : (x : Table.Found) → entryOf x ≡ e → take (e .«key_len») b ≡ x .key → SoughtCase.None ≡ soughtOf (ofWord w (found x))
+        go x s k = rw (of-key f k, ofWord)
 
     pub word-same : true ≡ sameBytes (userOf (take (e .«key_len») b)) w → Holds a b → SoughtCase.Entry e ≡ soughtOf (ofWord w a)
-    unfolding soughtOf ofWord entryOf
-    word-same f = go a (sym shown ∙ is)
+    unfolding soughtOf ofWord
+    word-same f holds = by-entry (λ (a : Answer). SoughtCase.Entry e ≡ soughtOf (ofWord w a)) b a shown is holds go go
       where
-        go : (a : Answer) → soughtOf a ≡ SoughtCase.Entry e → Holds a b → SoughtCase.Entry e ≡ soughtOf (ofWord w a)
-        go (refused m) s h = apart cc
-        go nothing s h = apart cc
-        go (found x) s h =
-            let n : length (x .key) ≡ e .«key_len» = cc in
-            let o : sameBytes (userOf (x .key)) w ≡ true = ap (λ (k : List ℕ). sameBytes (userOf k) w) (sym h ∙ ap (λ (m : ℕ). take m b) n) ∙ sym f in
-            rw (o, ofWord) (sym s ∙ sym (kind-shown x))
-        go (deleted x) s h =
-            let n : length (x .key) ≡ e .«key_len» = cc in
-            let o : sameBytes (userOf (x .key)) w ≡ true = ap (λ (k : List ℕ). sameBytes (userOf k) w) (sym h ∙ ap (λ (m : ℕ). take m b) n) ∙ sym f in
-            rw (o, ofWord) (sym s ∙ sym (kind-shown x))
+        go : (x : Table.Found) → entryOf x ≡ e → take (e .«key_len») b ≡ x .key → SoughtCase.Entry e ≡ soughtOf (ofWord w (found x))
+        go x s k = rw (of-key f k, ofWord) (ap SoughtCase.Entry (sym s) ∙ sym (kind-shown x))
 
--- an answer of a word goes by its kind, has its key where it was, and lies in the table
-kinded : (x : Table.Found) → Kinded (byKind (some x))
-unfolding byKind
-kinded x = test (eqb (kindOf (x .key)) 0) (λ t. rw (t, byKind) t) (λ t. rw (t, byKind) t)
+-- an answer of a word has its key where it was, lies in the table, and goes by its kind
+abbrev Kept : List ℕ → List ℕ → Answer → Type 0
+Kept t b a = Holds a b × T (listed t a) × Kinded a
 
-word-kinded : (w : List ℕ) (a : Answer) → Kinded (ofWord w a)
-unfolding ofWord
-word-kinded w (refused n) = tt
-word-kinded w nothing = tt
-word-kinded w (found x) = test (sameBytes (userOf (x .key)) w) (λ t. rw (t, ofWord) (kinded x)) (λ t. rw (t, ofWord) tt)
-word-kinded w (deleted x) = test (sameBytes (userOf (x .key)) w) (λ t. rw (t, ofWord) (kinded x)) (λ t. rw (t, ofWord) tt)
-
-kept : (t b : List ℕ) (x : Table.Found) → take (length (x .key)) b ≡ x .key → T (listed t (found x)) → Holds (byKind (some x)) b × T (listed t (byKind (some x)))
+kept : (t b : List ℕ) (x : Table.Found) → take (length (x .key)) b ≡ x .key → T (listed t (found x)) → Kept t b (byKind (some x))
 unfolding byKind listed
-kept t b x h i = test (eqb (kindOf (x .key)) 0) (λ e. rw (e, byKind) (h, i)) (λ e. rw (e, byKind) (h, i))
+kept t b x h i = test (eqb (kindOf (x .key)) 0) (λ e. rw (e, byKind) (h, i, e)) (λ e. rw (e, byKind) (h, i, e))
 
-word-kept : (t b w : List ℕ) (a : Answer) → Holds a b → T (listed t a) → Holds (ofWord w a) b × T (listed t (ofWord w a))
+word-kept : (t b w : List ℕ) (a : Answer) → Holds a b → T (listed t a) → Kept t b (ofWord w a)
 unfolding ofWord listed
-word-kept t b w (refused n) h i = (tt, i)
-word-kept t b w nothing h i = (tt, tt)
-word-kept t b w (found x) h i = test (sameBytes (userOf (x .key)) w) (λ e. rw (e, ofWord) (kept t b x h i)) (λ e. rw (e, ofWord) (tt, tt))
-word-kept t b w (deleted x) h i = test (sameBytes (userOf (x .key)) w) (λ e. rw (e, ofWord) (kept t b x h i)) (λ e. rw (e, ofWord) (tt, tt))
+word-kept t b w (refused n) h i = (tt, i, tt)
+word-kept t b w nothing h i = (tt, tt, tt)
+word-kept t b w (found x) h i = test (sameBytes (userOf (x .key)) w) (λ e. rw (e, ofWord) (kept t b x h i)) (λ e. rw (e, ofWord) (tt, tt, tt))
+word-kept t b w (deleted x) h i = test (sameBytes (userOf (x .key)) w) (λ e. rw (e, ofWord) (kept t b x h i)) (λ e. rw (e, ofWord) (tt, tt, tt))
 
 -- the kind, as code reads it
 module _ {r : Sought} (a : Answer) (shown : r ≡ soughtOf a) where
   pub kind-refused : {n : ℕ} → r ≡ SoughtCase.Refused n → FoundCase.Refused n ≡ lookedOf a
-  unfolding soughtOf lookedOf
-  kind-refused {n} e = go a (sym shown ∙ e)
-    where
-      go : (a : Answer) → soughtOf a ≡ SoughtCase.Refused n → FoundCase.Refused n ≡ lookedOf a
-      go (refused m) s = cc
-      go nothing s = apart cc
-      go (found x) s = apart cc
-      go (deleted x) s = apart cc
+  unfolding lookedOf
+  kind-refused e = rw (shows a shown e)
 
   pub kind-none : r ≡ SoughtCase.None → FoundCase.Absent ≡ lookedOf a
-  unfolding soughtOf lookedOf
-  kind-none e = go a (sym shown ∙ e)
-    where
-      go : (a : Answer) → soughtOf a ≡ SoughtCase.None → FoundCase.Absent ≡ lookedOf a
-      go (refused m) s = apart cc
-      go nothing s = refl
-      go (found x) s = apart cc
-      go (deleted x) s = apart cc
+  unfolding lookedOf
+  kind-none e = rw (shows a shown e)
 
   module _ (b : List ℕ) {e : EntryStruct.Entry} (is : r ≡ SoughtCase.Entry e) where
-    same-kind : (x : Table.Found) → entryOf x ≡ e → take (length (x .key)) b ≡ x .key → tagOf (take (e .«key_len») b) % 256 ≡ kindOf (x .key)
-    unfolding entryOf kindOf
-    same-kind x s h =
-        let n : length (x .key) ≡ e .«key_len» = ap (λ (y : EntryStruct.Entry). y .«key_len») s in
-        ap (λ (k : List ℕ). tagOf k % 256) (ap (λ (m : ℕ). take m b) (sym n) ∙ h)
-
-    entry-in : {x y : EntryStruct.Entry} → SoughtCase.Entry x ≡ SoughtCase.Entry y → x ≡ y
-    entry-in e = cc
+    kind-key : {k : List ℕ} → take (e .«key_len») b ≡ k → eqb (kindOf k) 0 ≡ eqb (tagOf (take (e .«key_len») b) % 256) 0
+    unfolding kindOf
+    kind-key k-is = ap (λ (k : List ℕ). eqb (tagOf k % 256) 0) (sym k-is)
 
     pub kind-deleted : eqb (tagOf (take (e .«key_len») b) % 256) 0 ≡ true → Holds a b → Kinded a → FoundCase.Deleted e ≡ lookedOf a
-    unfolding soughtOf lookedOf
-    kind-deleted f = go a (sym shown ∙ is)
-      where
-        go : (a : Answer) → soughtOf a ≡ SoughtCase.Entry e → Holds a b → Kinded a → FoundCase.Deleted e ≡ lookedOf a
-        go (refused m) s h k = apart cc
-        go nothing s h k = apart cc
-        go (found x) s h k = absurd (false≢true (sym k ∙ ap (λ (m : ℕ). eqb m 0) (sym (same-kind x (entry-in s) h)) ∙ f))
-        go (deleted x) s h k = ap FoundCase.Deleted (sym (entry-in s))
+    unfolding lookedOf
+    kind-deleted f holds =
+        by-entry (λ (a : Answer). Kinded a → FoundCase.Deleted e ≡ lookedOf a) b a shown is holds
+        (λ x s k kind. absurd (false≢true (sym kind ∙ kind-key k ∙ f)))
+        (λ x s k kind. ap FoundCase.Deleted (sym s))
 
     pub kind-value : eqb (tagOf (take (e .«key_len») b) % 256) 0 ≡ false → Holds a b → Kinded a → FoundCase.Entry e ≡ lookedOf a
-    unfolding soughtOf lookedOf
-    kind-value f = go a (sym shown ∙ is)
-      where
-        go : (a : Answer) → soughtOf a ≡ SoughtCase.Entry e → Holds a b → Kinded a → FoundCase.Entry e ≡ lookedOf a
-        go (refused m) s h k = apart cc
-        go nothing s h k = apart cc
-        go (found x) s h k = ap FoundCase.Entry (sym (entry-in s))
-        go (deleted x) s h k = absurd (false≢true (sym f ∙ ap (λ (m : ℕ). eqb m 0) (same-kind x (entry-in s) h) ∙ k))
+    unfolding lookedOf
+    kind-value f holds =
+        by-entry (λ (a : Answer). Kinded a → FoundCase.Entry e ≡ lookedOf a) b a shown is holds
+        (λ x s k kind. ap FoundCase.Entry (sym s))
+        (λ x s k kind. absurd (false≢true (sym f ∙ sym (kind-key k) ∙ kind)))
 
 -- ---- through the index
 
@@ -275,31 +218,17 @@ unfolding ofWord sayAt byKind
 word-said p ix none = refl
 word-said p ix (some e) = test (sameBytes (userOf (e .key)) (p .word)) (λ t. rw (t, ofWord, onlyWord)) (λ t. rw (t, ofWord, onlyWord))
 
-settled-at : {t : List ℕ} {f : Option (List ℕ)} (bs : List Entry) (e : Entry) (cs : List Entry) → Laid t f (bs ++ (e ∷ cs)) → Settled t f e cs
-settled-at [] e cs (Laid.cons s l) = s
-settled-at (b ∷ bs) e cs (Laid.cons s l) = settled-at bs e cs l
+settled : {t : List ℕ} {f : Option (List ℕ)} {ix : Entry} {cs : List Entry} → Laid t f (ix ∷ cs) → Settled t f ix cs
+settled (Laid.cons s l) = s
 
 module _ (t : List ℕ) {offset size : ℕ} (i : Indexed t offset size) (p : Point) where
   abbrev says : Answer
   says = lookupSays t p
 
   module _ {r : Located} (ir : Sees t offset size (seekIn p) r) where
-    pub look-refused : {n : ℕ} {b : List ℕ} → r ≡ LocatedCase.Refused n → Tells soughtOf t (IsKinded t says) (SoughtCase.Refused n) b
-    look-refused e = tells-refused t (IsKinded t says) (rw e at (ir .sound)) (λ q. never-refused t i p ir e q, tt)
-
-    pub look-no-place : {b : List ℕ} → r ≡ LocatedCase.NoPlace → Tells soughtOf t (IsKinded t says) (SoughtCase.Refused 10) b
-    unfolding listed
-    look-no-place e = tells-refused t (IsKinded t says) (λ u. tt) (λ q. never-no-place t i p ir e q, tt)
-
     pub look-none : {b : List ℕ} → r ≡ LocatedCase.None → Tells soughtOf t (IsKinded t says) SoughtCase.None b
-    unfolding blockAt byKind lookupSays
-    look-none e =
-        tells-none t (IsKinded t says) (
-          λ q. by-split t i p ir q
-              (λ l _. sym (ap byKind (lookup-beyond t p (passed-opens t i q .table) q (passed-opens t i q .opens) l)))
-              (λ s g. let z : LocatedCase.None ≡ blockAt (some (some (s .here))) = sym e ∙ g in apart cc),
-          tt,
-        )
+    unfolding byKind lookupSays
+    look-none e = tells-none t (IsKinded t says) (λ q. let o = passed-opens t i q in sym (ap byKind (lookup-beyond t p (o .table) q (o .opens) (all-below t i p ir e q))), tt)
 
     module _ {start at len : ℕ} (e : r ≡ LocatedCase.Block start at len) where
       module _ {m : Held} (held : HeldIs t at (p .word) m) where
@@ -320,52 +249,38 @@ module _ (t : List ℕ) {offset size : ℕ} (i : Indexed t offset size) (p : Poi
 
         pub look-denied : {b : List ℕ} → m ≡ HeldCase.Not → Tells soughtOf t (IsKinded t says) SoughtCase.None b
         unfolding blockAt heldOf byKind lookupSays
-        look-denied f = tells-none t (IsKinded t says) (λ q. by-split t i p ir q (λ l g. let z : LocatedCase.Block start at len ≡ LocatedCase.None = sym e ∙ g in apart cc) (go q), tt)
+        look-denied f = tells-none t (IsKinded t says) (go, tt)
           where
             denied : (b : Bool) → HeldCase.Not ≡ heldOf b → T (not b)
             denied true e = apart cc
             denied false e = tt
 
-            go : (q : Passed t) (s : SearchLaws.Split p (passed-opens t i q .table .index)) → r ≡ blockAt (some (some (s .here))) → nothing ≡ byKind (lookupOf t p)
-            go q s g =
+            go : Passed t → nothing ≡ byKind (lookupOf t p)
+            go q =
                 let o = passed-opens t i q in
-                let z : LocatedCase.Block start at len ≡ blockAt (some (some (s .here))) = sym e ∙ g in
+                let n = block-split t i p ir e q in
+                let s = n .0 in
+                let z : LocatedCase.Block start at len ≡ blockAt (some (some (s .here))) = n .1 in
                 let y : at ≡ handleOf (s .here .value) .offset = cc in
                 let h : HeldCase.Not ≡ heldOf (mayHold (o .table .filter) at (p .word)) = sym f ∙ held .passed q (o .table) (o .opens) in
                 sym (ap byKind (filter-law t p (o .table) q (o .opens) s (denied (mayHold (o .table .filter) (handleOf (s .here .value) .offset) (p .word)) (rw y at h))))
 
       pub look-block : {h q : Sought} {k : List ℕ} → Tells soughtOf t (Says t start at len (seekIn p)) h k → ((a : Answer) → h ≡ soughtOf a → Holds a k → q ≡ soughtOf (ofWord (p .word) a)) → Tells soughtOf t (IsKinded t says) q k
-      unfolding blockAt byKind lookupSays seekIn contents
+      unfolding byKind lookupSays seekIn foundsOf
       look-block {k = k} w of =
           let a = w .answer in
           let there = word-kept t k (p .word) a (w .holds) (w .inside) in
-          record {
-            answer = ofWord (p .word) a;
-            shown = of a (w .shown) (w .holds);
-            holds = there .0;
-            inside = there .1;
-            is = (λ u. by-split t i p ir u (λ l g. let z : LocatedCase.Block start at len ≡ LocatedCase.None = sym e ∙ g in apart cc) (go u), word-kinded (p .word) a);
-          }
+          record { answer = ofWord (p .word) a; shown = of a (w .shown) (w .holds); holds = there .0; inside = there .1; is = (go, there .2) }
         where
-          go : (u : Passed t) (s : SearchLaws.Split p (passed-opens t i u .table .index)) → r ≡ blockAt (some (some (s .here))) → ofWord (p .word) (w .answer) ≡ byKind (lookupOf t p)
-          go u s g =
+          go : Passed t → ofWord (p .word) (w .answer) ≡ byKind (lookupOf t p)
+          go u =
               let o = passed-opens t i u in
+              let n = block-split t i p ir e u in
+              let s = n .0 in
               let ix = s .here in
-              let block = handleOf (ix .value) in
-              let es = entriesAt t block in
-              let z : LocatedCase.Block start at len ≡ blockAt (some (some ix)) = sym e ∙ g in
-              let x : start ≡ ix .start = cc in
-              let y : at ≡ block .offset = cc in
-              let v : len ≡ block .size = cc in
-              let reads : BlockReads t ix = all-mem (rw (s .whole) at (o .blocks)) (Memᴰ·append-right (s .before) (List·Memᴰ·head refl)) in
-              let hit : w .answer ≡ sayAt (ix .start) (block .offset) (some (first (reaches p) es)) =
-              w .is es (rw (y, v) (reads .reads)) (reads .order) ∙ ap₂ (λ (a b : ℕ). sayAt a b (some (first (reaches p) es))) x y in
-              let rising = settled-at (s .before) ix (s .after) (rw (s .whole) at (o .laid)) .rising in
-              ap (ofWord (p .word)) hit
+              let es = entriesAt t (handleOf (ix .value)) in
+              ap (ofWord (p .word)) (block-said t o ix (rw (s .whole) (Memᴰ·append-right (s .before) (List·Memᴰ·head refl))) (n .1) (seekIn p) (w .is))
               ∙ word-said p ix (first (reaches p) es)
-              ∙ ap (λ (m : Option _). byKind (onlyWord p m)) (sym (first-found p ix es) ∙ founds ix)
-              ∙ ap byKind (sym (for-by-reach p (foundsOf t ix) rising))
+              ∙ ap (λ (m : Option _). byKind (onlyWord p m)) (sym (first-found p ix es))
+              ∙ ap byKind (sym (for-by-reach p (foundsOf t ix) (settled (laid-from (s .before) (rw (s .whole) at (o .laid))) .rising)))
               ∙ ap byKind (sym (lookup-law t p (o .table) u (o .opens) s))
-            where
-              founds : (ix : Entry) → first (notBelow p) (map (foundIn ix) (entriesAt t (handleOf (ix .value)))) ≡ first (notBelow p) (foundsOf t ix)
-              founds ix = unfold foundsOf in refl

@@ -12,7 +12,8 @@ use Rattle.codec.specs.Varint.{Handle, oneHandle}
 use Rattle.codec.proofs.Prelude.{is-true, and-r}
 use Rattle.codec.proofs.Lists.{All, all-imp}
 use Rattle.block.specs.Block.{Pair, Entry, pairsOf}
-use Rattle.block.specs.Formed.{dataBlock, indexBlock, within, isHandle, entryFits, all}
+use Rattle.codec.specs.Limits.{within}
+use Rattle.block.specs.Formed.{dataBlock, indexBlock, isHandle, entryFits, all}
 use Rattle.block.specs.Search.{readable, inOrder}
 use Rattle.block.proofs.FormedLaws.{asPair, formed-read, formed-readable}
 use Rattle.table.specs.Checked.{pass}
@@ -46,15 +47,9 @@ one-handle s = go (oneHandle s) refl
     go (some h) e t = rw (e, handleOf) refl
 
 -- what the check of one data block tells
-record Tested (t : List ℕ) (h : Handle) : Type 0 where
-  inside : endsBefore (length t) (h .offset) (h .size) ≡ true
-  reads : readable (contents t h) ≡ some (entriesAt t h)
-  order : inOrder (entriesAt t h) ≡ true
-  fits : T (all (entryFits dataBlock) (pairsOf (entriesAt t h)))
-
-block-tested : (t : List ℕ) (f : Option (List ℕ)) (before : Option Edge) (ix : Pair) {ps : List Pair} → dataBlockOf t f before ix ≡ pass ps → Tested t (handleOf (ix .value))
+block-reads : (t : List ℕ) (f : Option (List ℕ)) (before : Option Edge) (ix : Entry) {ps : List Pair} → oneHandle (ix .value) ≡ some (handleOf (ix .value)) → dataBlockOf t f before (asPair ix) ≡ pass ps → BlockReads t ix
 unfolding dataBlockOf placed sealed blockOf inOrder
-block-tested t f before ix {ps} p =
+block-reads t f before ix one p =
     asking _ _ _ p λ inside p.
     asking _ _ _ p λ intact p.
     passing _ _ p λ es read p.
@@ -63,18 +58,19 @@ block-tested t f before ix {ps} p =
     let h = handleOf (ix .value) in
     let same : entriesAt t h ≡ es = block-of t h dataBlock read .0 in
     record {
-      inside = is-true _ inside;
+      one = one;
+      placed = is-true _ inside;
       reads = rw same (formed-readable dataBlock (contents t h) (orRefuse-pass 10 _ read));
       order = is-true _ (rw same rising);
       fits = rw same (formed-read dataBlock (contents t h) (orRefuse-pass 10 _ read) .fits);
     }
 
-blocks-tested : (t : List ℕ) (f : Option (List ℕ)) (before : Option Edge) (ixs : List Entry) → dataBlocksOf t f before (pairsOf ixs) ≡ pass tt → All (λ (ix : Entry). Tested t (handleOf (ix .value))) ixs
+blocks-read : (t : List ℕ) (f : Option (List ℕ)) (before : Option Edge) (ixs : List Entry) → All (λ (ix : Entry). oneHandle (ix .value) ≡ some (handleOf (ix .value))) ixs → dataBlocksOf t f before (pairsOf ixs) ≡ pass tt → All (BlockReads t) ixs
 unfolding dataBlocksOf
-blocks-tested t f before [] p = All.nil
-blocks-tested t f before (ix ∷ ixs) p =
+blocks-read t f before [] All.nil p = All.nil
+blocks-read t f before (ix ∷ ixs) (All.cons one ones) p =
     passing _ _ p λ ps read p.
-    All.cons (block-tested t f before (asPair ix) read) (blocks-tested t f _ ixs p)
+    All.cons (block-reads t f before ix one read) (blocks-read t f _ ixs ones p)
 
 -- ---- the index
 
@@ -108,10 +104,6 @@ index-tested t h {es} p =
     } in
     rw (pass-same p) at r
 
-all-both : {A : Type 0} {P Q R : A → Type 0} {xs : List A} → ((x : A) → P x → Q x → R x) → All P xs → All Q xs → All R xs
-all-both f All.nil All.nil = All.nil
-all-both f (All.cons {x = x} p ps) (All.cons q qs) = All.cons (f x p q) (all-both f ps qs)
-
 pub passed-opens : (t : List ℕ) {offset size : ℕ} → Indexed t offset size → Passed t → Opens t (record { offset = offset; size = size })
 unfolding fullCheck opened
 passed-opens t {offset} {size} i p =
@@ -124,14 +116,13 @@ passed-opens t {offset} {size} i p =
     let ixs-is : ixs ≡ o .index = ap (λ (x : Opened). x .index) o-is in
     let h-is : ft .index ≡ record { offset = offset; size = size } = ap (λ (x : Footer). x .index) (pass-same (sym foot ∙ i .reads)) ∙ i .index in
     let ir = index-tested t (ft .index) index in
-    let ts = blocks-tested t (o .filter) none (o .index) q in
     record {
       table = o;
       opens = op;
       reads = rw (← h-is, ← ixs-is) (ir .reads);
       order = rw (← ixs-is) (ir .order);
       same = rw (← h-is) (index-read t (ft .index) index ∙ ixs-is);
-      blocks = all-both (λ ix one u. record { one = one; placed = u .inside; reads = u .reads; order = u .order; fits = u .fits }) (rw (← ixs-is) (ir .handles)) ts;
+      blocks = blocks-read t (o .filter) none (o .index) (rw (← ixs-is) (ir .handles)) q;
       laid = laid (stands t o p op);
     }
 

@@ -1,31 +1,31 @@
 -- A walk by seek and step shows the plain reading, in order.
-use Prim.Native.Nat.{ℕ, _+_, _≤_}
+use Prim.Native.Nat.{ℕ, _≤_}
 use mathlib.Core.Path.{_≡_, refl, sym, _∙_, ap, ap₂, subst}
 use mathlib.Core.List.{List, [], _∷_, _++_, map, head?, append-assoc}
 use mathlib.Core.Option.{Option, some}
 use native.Mathlib.Omega.{arith}
-use lib.Dec.{T, leb, leb→le}
-use lib.ListN.{length, take, drop, length-append}
-use lib.Seq.{take-append-seam}
+use lib.Dec.{T}
+use lib.ListN.{length, take}
 use Rattle.codec.specs.Maybe.{first}
 use Rattle.codec.proofs.Lists.{first-yes, first-no}
-use Rattle.codec.proofs.Prelude.{test, and-r, true-is, false-is}
+use Rattle.codec.proofs.Prelude.{test, true-is, false-is}
 use Rattle.keys.specs.Order.{Point}
 use Rattle.table.specs.Table.{Found, plain}
 use Rattle.table.specs.Promise.{Passed, notBelow, seekOf}
 use Rattle.table.specs.Reads.{Answer, foundOr, seekSays, stepSays, listed, bufferAfter}
 use Rattle.table.specs.Runs.{overlay}
+use Rattle.table.proofs.OverlayLaws.{overlay-front, overlay-long}
 use Rattle.table.proofs.PlaceLaws.{after-means}
 use Rattle.reader.specs.declared.table_reader.Entry.{Entry}
 use Rattle.reader.specs.declared.table_reader.Sought.{Sought}
 use Rattle.reader.specs.declared.table_reader.Sought.the-variants as SoughtCase
 use Rattle.reader.specs.Answers.{entryOf, soughtOf}
 use Rattle.reader.specs.Walk.{Visit, visitOf, Walk, onward, walkMeans}
-use Rattle.reader.proofs.LaterLaws.{apart}
+use Rattle.reader.proofs.AnswerLaws.{apart, listed-key}
 
 -- ---- the entries from a point on
 
-pub first-onward : (p : Point) (xs : List Found) → first (notBelow p) xs ≡ head? (onward p xs)
+first-onward : (p : Point) (xs : List Found) → first (notBelow p) xs ≡ head? (onward p xs)
 unfolding first onward
 first-onward p [] = refl
 first-onward p (x ∷ xs) =
@@ -51,14 +51,6 @@ module _ (t : List ℕ) where
     buffer : (x : Found) → head? cs ≡ some x → take (length (x .key)) k ≡ x .key
     long : 1032 ≤ length k
 
-  key-front : (x k : List ℕ) → length x ≤ length k → take (length x) (overlay x k) ≡ x
-  unfolding overlay
-  key-front x k l = take-append-seam x (drop (length x) k)
-
-  overlay-long : (x k : List ℕ) → length x ≤ length k → length (overlay x k) ≡ length k
-  unfolding overlay
-  overlay-long x k l = simp length-append (omega (arith, lib.ListN.length-drop (length x) k))
-
   shown : (cs : List Found) {r : Sought} (k : List ℕ) {k′ : List ℕ} {a : Answer} → a ≡ foundOr (head? cs) → r ≡ soughtOf a → k′ ≡ bufferAfter a k → T (listed t a) → 1032 ≤ length k → Shown cs r k′
   unfolding foundOr bufferAfter listed
   shown [] {r} k {k′} {a} is say left inside long =
@@ -68,12 +60,12 @@ module _ (t : List ℕ) where
         long = let same : k′ ≡ k = left ∙ ap (λ (b : Answer). bufferAfter b k) is in rw same long;
       }
   shown (c ∷ cs) {r} k {k′} {a} is say left inside long =
-      let fits : length (c .key) ≤ 1032 = leb→le (length (c .key)) 1032 (and-r (leb (c .valueAt + length (c .value)) (length t)) (leb (length (c .key)) 1032) (subst (λ (b : Answer). T (listed t b)) is inside)) in
+      let fits : length (c .key) ≤ 1032 = listed-key t c (subst (λ (b : Answer). T (listed t b)) is inside) in
       let same : k′ ≡ overlay (c .key) k = left ∙ ap (λ (b : Answer). bufferAfter b k) is in
       record {
         answer = say ∙ ap soughtOf is;
-        buffer = λ x e. let c-is : c ≡ x = mathlib.Core.Option.Option·some-inj .0 e in subst (λ (y : Found). take (length (y .key)) k′ ≡ y .key) c-is (rw same (key-front (c .key) k (omega arith)));
-        long = rw same (omega (arith, overlay-long (c .key) k (omega arith)));
+        buffer = λ x e. let c-is : c ≡ x = mathlib.Core.Option.Option·some-inj .0 e in subst (λ (y : Found). take (length (y .key)) k′ ≡ y .key) c-is (rw same (overlay-front (c .key) (overlay (c .key) k) k refl));
+        long = rw same (omega (arith, overlay-long (c .key) (overlay (c .key) k) k refl (omega arith)));
       }
 
 -- a step from an entry's place goes to the entry after it

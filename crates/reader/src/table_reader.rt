@@ -9,12 +9,13 @@ ghost use lib.ListN.{length};
 ghost use Rattle.codec.specs.Bytes.{part};
 ghost use Rattle.codec.specs.Varint.{oneHandle};
 ghost use Rattle.block.specs.Block.{Entry};
-ghost use Rattle.block.specs.Search.{seekIn};
+ghost use Rattle.block.specs.Search.{seekIn, placeIn};
 ghost use Rattle.table.specs.Table.{endsBefore, entriesAt, readBlocks};
 ghost use Rattle.table.specs.Promise.{Passed};
 ghost use Rattle.table.specs.Reads.{Answer, pointFits, listed, bufferAfter, foundOr, seekSays, lookupSays, stepSays};
 ghost use Rattle.reader.specs.Answers.{soughtOf, lookedOf, Seeks, Looks, Steps};
 ghost use Rattle.reader.specs.Parts.{Indexed, Inside, locatedOf, byHandle, Adds, hitOf, Holds, Tells, Sees, Says, IsLater, OrLater, Is, Short, Named, HeldIs, ofWord, Kinded, IsKinded};
+use block::block::Which;
 use codec::blockhandle::OneHandle;
 use keys::cmp::Ordering;
 use table::footer;
@@ -136,6 +137,27 @@ fn hit(index: usize, offset: usize, found: block::block::Found) -> Sought
     }
 }
 
+// The block of the index entry that starts at a place, or of the one after it.
+fn place_index(
+    table: &[u8],
+    index_at: usize,
+    index_size: usize,
+    at: usize,
+    which: Which,
+    buf: &mut [u8],
+) -> Located
+    requires { ⌜ Indexed (now table) «index_at» «index_size» × (length (now buf) ≡ 1032) ⌝ }
+    ensures { λ r. ⌜ Sees (now (table .entry)) «index_at» «index_size» (placeIn which at) r ⌝ }
+{
+    let index_end = index_at + index_size;
+    let index = &table[index_at..index_end];
+    locate(
+        table.len(),
+        index,
+        block::block::by_place(index, at, which, buf),
+    )
+}
+
 // The first entry of the block after the one whose index entry starts at a place.
 fn first_after(
     table: &[u8],
@@ -147,9 +169,7 @@ fn first_after(
     requires { ⌜ Indexed (now table) «index_at» «index_size» × (length (now buf) ≡ 1032) ⌝ }
     ensures { λ r. ⌜ Tells soughtOf (now (table .entry)) (IsLater (now (table .entry)) «index_at» «index_size» start) r (now (buf .exit)) ⌝ }
 {
-    let index_end = index_at + index_size;
-    let index = &table[index_at..index_end];
-    match locate(table.len(), index, block::block::next(index, start, buf)) {
+    match place_index(table, index_at, index_size, start, Which::After, buf) {
         Located::Refused(n) => Sought::Refused(n),
         Located::None => Sought::None,
         Located::NoPlace => Sought::Refused(10),
@@ -257,13 +277,7 @@ fn follow(table: &[u8], index_at: usize, index_size: usize, place: Place, buf: &
     requires { ⌜ Indexed (now table) «index_at» «index_size» × (length (now buf) ≡ 1032) ⌝ }
     ensures { λ r. ⌜ Tells soughtOf (now (table .entry)) (Is (now (table .entry)) (stepSays (now (table .entry)) (place .index) (place .entry))) r (now (buf .exit)) ⌝ }
 {
-    let index_end = index_at + index_size;
-    let index = &table[index_at..index_end];
-    match locate(
-        table.len(),
-        index,
-        block::block::current(index, place.index, buf),
-    ) {
+    match place_index(table, index_at, index_size, place.index, Which::Here, buf) {
         Located::Refused(n) => Sought::Refused(n),
         Located::None => Sought::Refused(14),
         Located::NoPlace => Sought::Refused(14),
@@ -276,7 +290,7 @@ fn follow(table: &[u8], index_at: usize, index_size: usize, place: Place, buf: &
             let here = hit(
                 start,
                 offset,
-                block::block::next(&table[offset..to], place.entry, buf),
+                block::block::by_place(&table[offset..to], place.entry, Which::After, buf),
             );
             or_later(here, table, index_at, index_size, start, buf)
         }
@@ -304,13 +318,10 @@ fn hand(answer: Sought, buf: &[u8], key: &mut [u8]) -> Sought
 fn fits(word: &[u8], edition: u64) -> bool
     ensures { λ r. ⌜ r ≡ pointFits (record { word = now (word .entry); edition = edition }) ⌝ }
 {
-    if word.len() < 1 {
-        return false;
+    if codec::limits::within(1, 1024, word.len()) {
+        return edition < 0x0100_0000_0000_0000;
     }
-    if 1024 < word.len() {
-        return false;
-    }
-    edition < 0x0100_0000_0000_0000
+    false
 }
 
 // The least entry that is not below a target, a word and an edition.

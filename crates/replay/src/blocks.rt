@@ -6,6 +6,7 @@ use block::block as rows;
 use block::block::EntryRead;
 use block::block::Found;
 use block::block::Kind;
+use block::block::Which;
 use block::block_builder::BlockBuilder;
 use codec::put::Written;
 
@@ -181,7 +182,7 @@ fn seek(s: &[u8], at: usize, b: &[u8]) {
 fn next(s: &[u8], at: usize, b: &[u8]) {
     let mut key = [0xee_u8; 1032];
     let place = fields::number(s, at);
-    let r = rows::next(b, place.value, &mut key);
+    let r = rows::by_place(b, place.value, Which::After, &mut key);
     found(b, &key, r);
 }
 
@@ -230,11 +231,11 @@ fn walk_first(b: &[u8]) -> Walked {
 
 fn walk_next(b: &[u8], at: usize, n: usize) -> Walked {
     let mut key = [0xee_u8; 1032];
-    let f = rows::next(b, at, &mut key);
+    let f = rows::by_place(b, at, Which::After, &mut key);
     visit(b, f, &key, n)
 }
 
-// All entries, by first and next.
+// All entries, by first and then each after the last.
 fn walk(b: &[u8]) {
     let mut w = walk_first(b);
     let mut n: usize = 0;
@@ -286,7 +287,7 @@ fn every(b: &[u8]) {
 
 fn after(b: &[u8], at: usize) {
     let mut key = [0u8; 1032];
-    let f = rows::next(b, at, &mut key);
+    let f = rows::by_place(b, at, Which::After, &mut key);
     show::yes(inside(b, f), b" outside", b"");
 }
 

@@ -16,7 +16,8 @@ use Rattle.keys.proofs.OrderLaws.{Less, point-same, below-less, less-below, upT
 use Rattle.keys.proofs.KeyLaws.{internal-length}
 use Rattle.keys.proofs.SeparatorLaws.{Separates, separates, separator-length}
 use Rattle.block.specs.Block.{Pair, lastKeyOf}
-use Rattle.block.specs.Formed.{dataBlock, within, entryFits, all, enough, rises}
+use Rattle.codec.specs.Limits.{within}
+use Rattle.block.specs.Formed.{dataBlock, entryFits, all, enough, rises}
 use Rattle.block.proofs.FormedLaws.{all-more, rises-more}
 use Rattle.block.proofs.BuildLaws.{none-long}
 use Rattle.table.specs.Checked.{pass, _>>=_}

@@ -12,7 +12,8 @@ use Rattle.codec.proofs.BytesLaws.{same-same}
 use Rattle.codec.proofs.VarintLaws.{Fits, one-handle}
 use Rattle.keys.specs.Order.{userOf, bytesBelow, below}
 use Rattle.block.specs.Block.{Pair, Entry, pairsOf, blockBytes, lastKeyOf}
-use Rattle.block.specs.Formed.{Kind, dataBlock, indexBlock, metaBlock, within, isHandle, bloomName, entryFits, all, enough, rises}
+use Rattle.codec.specs.Limits.{within}
+use Rattle.block.specs.Formed.{Kind, dataBlock, indexBlock, metaBlock, isHandle, bloomName, entryFits, all, enough, rises}
 use Rattle.block.proofs.BuildLaws.{planned, planned-pairs, block-bytes}
 use Rattle.block.proofs.FormedLaws.{formed-some}
 use Rattle.filter.specs.FilterBlock.{Filtering, unfiltered, bitsPerKey, filterFormed, noFilters, lastFilter, madeBytes, filterBlockBytes}

@@ -80,7 +80,7 @@ module _ (o : Options) where
       (λ t. rw (e, closeBefore, t, countCloseBefore))
 
   -- into the open block
-  counts-put : (b : Building) (a : Addition) → countsOf o (record { closed = b .closed; openBlock = b .openBlock ++ (a ∷ []) })
+  pub counts-put : (b : Building) (a : Addition) → countsOf o (record { closed = b .closed; openBlock = b .openBlock ++ (a ∷ []) })
       ≡ (let c = countsOf o b in
       record {
         written = c .written;

@@ -89,17 +89,17 @@ module _ (t : List ℕ) where
 
   module _ (l : 48 ≤ length t) where
     pub too-long : 2 ^ 24 < length t → FooterCase.Refused 7 ≡ footerAnswer (footer t)
-    unfolding footer footerAnswer ask _>>=_ tableLimit
-    too-long h = rw (le-leb 48 (length t) l, lt-leb (length t) 16777216 h)
+    unfolding footer footerAnswer ask _>>=_
+    too-long h = rw (le-leb 48 (length t) l, lt-leb (length t) tableLimit h)
 
     module _ (u : length t ≤ 2 ^ 24) where
       pub no-magic : sameBytes (drop (length t - 8) t) magic ≡ false → FooterCase.Refused 7 ≡ footerAnswer (footer t)
-      unfolding footer footerAnswer ask _>>=_ tableLimit
-      no-magic e = rw (le-leb 48 (length t) l, le-leb (length t) 16777216 u, e)
+      unfolding footer footerAnswer ask _>>=_
+      no-magic e = rw (le-leb 48 (length t) l, le-leb (length t) tableLimit u, e)
 
       pub by-handles : sameBytes (drop (length t - 8) t) magic ≡ true → footer t ≡ footerHandles t (part t (length t - 48) 40)
-      unfolding footer ask _>>=_ tableLimit
-      by-handles e = rw (le-leb 48 (length t) l, le-leb (length t) 16777216 u, e)
+      unfolding footer ask _>>=_
+      by-handles e = rw (le-leb 48 (length t) l, le-leb (length t) tableLimit u, e)
 
 -- the 40 bytes before the magic, as code hands them on
 pub part-is : (t : List ℕ) → 48 ≤ length t → take (length t - 8 - (length t - 48)) (drop (length t - 48) t) ≡ part t (length t - 48) 40

@@ -12,4 +12,5 @@ pub mod AcceptLaws
 pub mod StepLaws
 pub mod CountsLaws
 pub mod SufficeLaws
+pub mod OverlayLaws
 pub mod Cases

@@ -127,7 +127,6 @@ module _ (o : Options) (cs : List Chunk) where
 
   module _ (small : length (table o cs) ≤ tableLimit) where
     pub limit : length (table o cs) ≤ 2 ^ 24
-    unfolding tableLimit
     limit = small
 
     fits-meta : Fits (metaHandle o cs)

@@ -52,7 +52,7 @@ last-some b x xs e = cc
 
 -- ---- a table of nothing
 
-empty-most : (c : Filtering) → emptySize c ≤ 123
+pub empty-most : (c : Filtering) → emptySize c ≤ 123
 unfolding emptySize
 empty-most unfiltered = omega arith
 empty-most (bitsPerKey b) = omega arith
@@ -86,5 +86,4 @@ module _ (o : Options) where
       omega (arith, table-length o [], empty-meta-size (o .filtering), empty-written-size, empty-filter-size, empty-index-size)
 
   pub empty-small : length (table o []) ≤ tableLimit
-  unfolding tableLimit
   empty-small = omega (arith, empty-size, empty-most (o .filtering))

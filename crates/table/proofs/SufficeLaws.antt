@@ -14,7 +14,8 @@ use Rattle.keys.specs.Order.{below}
 use Rattle.keys.proofs.StartLaws.{above-fresh}
 use Rattle.block.specs.Block.{Pair, packed}
 use Rattle.block.specs.Count.{BlockCount, countOf, noEntries, countEntry, countSize}
-use Rattle.block.specs.Formed.{dataBlock, within, entryFits, all, rises}
+use Rattle.codec.specs.Limits.{within}
+use Rattle.block.specs.Formed.{dataBlock, entryFits, all, rises}
 use Rattle.block.proofs.CountLaws.{count-none, count-zero, Fresh, packed-fours}
 use Rattle.filter.specs.Filter.{hash}
 use Rattle.filter.specs.FilterBlock.{Filters, noFilters, wait, filtersUpTo, lastFilter}

@@ -4,7 +4,7 @@ use mathlib.Core.Bool.{Bool, true, _&&_}
 use mathlib.Core.List.{List}
 use lib.Dec.{leb, ltb}
 use lib.ListN.{length}
-use Rattle.block.specs.Formed.{within}
+use Rattle.codec.specs.Limits.{within}
 use Rattle.filter.specs.FilterBlock.{Filtering, unfiltered, bitsPerKey}
 
 -- restart interval, block size, filter choice
@@ -18,7 +18,7 @@ unfoldable pub indexInterval : Options → ℕ
 indexInterval o = o .interval
 
 -- the most bytes that a table has
-unfoldable pub tableLimit : ℕ
+abbrev pub tableLimit : ℕ
 tableLimit = 16777216
 
 -- the empty table's bytes

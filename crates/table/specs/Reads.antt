@@ -8,7 +8,7 @@ use lib.Dec.{T, eqb, ltb, leb}
 use lib.ListN.{length}
 use Rattle.keys.specs.Order.{Point, kindOf}
 use Rattle.table.specs.Checked.{refuse}
-use Rattle.block.specs.Formed.{within}
+use Rattle.codec.specs.Limits.{within}
 use Rattle.table.specs.Table.{footer, plain, Found}
 use Rattle.table.specs.Promise.{Passed, seekOf, lookupOf, after}
 use Rattle.table.specs.Runs.{overlay}

@@ -9,6 +9,9 @@ ghost use Rattle.table.specs.Table.{magic, endsBefore, footerHandles, fo
 use codec::blockhandle::HandleRead;
 use codec::fixed::U64Read;
 
+// The most bytes that a table has.
+pub const TABLE_LIMIT: usize = 16777216;
+
 // What decoding a table's footer finds: where the metaindex and the index stand, or the refusal's number.
 pub enum FooterRead {
     Footer {
@@ -90,7 +93,7 @@ pub fn decode(table: &[u8]) -> FooterRead
     if n < 48 {
         return FooterRead::Refused(7);
     }
-    if 16777216 < n {
+    if TABLE_LIMIT < n {
         return FooterRead::Refused(7);
     }
     if ends_in_magic(table) {

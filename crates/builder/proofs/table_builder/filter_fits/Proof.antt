@@ -11,11 +11,11 @@ enum-told c = search needs
 enum-known-f : tie.Need-enum-known-f
 enum-known-f c = search needs
 
-cast-between : tie.Need-cast-between
-cast-between c = search needs
+cast-within : tie.Need-cast-within
+cast-within c = search needs
 
-between-requires : tie.Need-between-requires
-between-requires c κs = search needs
+within-requires : tie.Need-within-requires
+within-requires c κs = search needs
 
 returns : tie.Need-returns
 unfolding filteringFits choiceOf
@@ -27,4 +27,4 @@ returns-2 c = cc
 
 pub filter-fits-spec : {M : Type 1} → statement M
 filter-fits-spec =
-    tie.close (tie.spec enum-told enum-known-f cast-between between-requires returns returns-2)
+    tie.close (tie.spec enum-told enum-known-f cast-within within-requires returns returns-2)

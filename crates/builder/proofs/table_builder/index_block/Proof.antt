@@ -2,7 +2,9 @@
 use mathlib.Core.Path.{refl, sym}
 use native.Mathlib.Omega.{arith}
 use lib.Seq.{length-take-le}
-use Rattle.builder.proofs.WriteLaws.{handle-never, handle-put}
+use Rattle.codec.specs.Varint.{handleBytes}
+use Rattle.codec.proofs.PutLaws.{front-never, front-put}
+use Rattle.codec.proofs.VarintLaws.{handle-long}
 use borrow.Author.Needs.{needs}
 use Rattle.builder.proofs.table_builder.index_block.Statement.{statement}
 use Rattle.builder.proofs.table_builder.index_block.Tie as tie
@@ -28,13 +30,13 @@ enum-known-n c = search needs
 array-share-prefix-handle : tie.Need-array-share-prefix-handle
 array-share-prefix-handle c =
     let a = c .before .before .before .before .before .before .before .before .before .before .before .args in
-    let h = handle-put (a .offset) (a .size) refl (c .before .before .before .before .before .before .encode-to .ensures) (c .before .before .before .n .given .1) in
+    let h = front-put 20 (handleBytes (record { offset = a .offset; size = a .size })) refl (handle-long (record { offset = a .offset; size = a .size })) (c .before .before .before .before .before .before .encode-to .ensures) (c .before .before .before .n .given .1) in
     omega (arith, h .0, h .1 .0)
 
 slice-aggregate-add-2 : tie.Need-slice-aggregate-add-2
 slice-aggregate-add-2 c =
     let a = c .before .before .before .before .before .before .before .before .before .before .before .before .args in
-    let h = handle-put (a .offset) (a .size) refl (c .before .before .before .before .before .before .before .encode-to .ensures) (c .before .before .before .before .n .given .1) in
+    let h = front-put 20 (handleBytes (record { offset = a .offset; size = a .size })) refl (handle-long (record { offset = a .offset; size = a .size })) (c .before .before .before .before .before .before .before .encode-to .ensures) (c .before .before .before .before .n .given .1) in
     sym (length-take-le _ _ (omega (arith, h .0, h .1 .0)))
 
 add-requires-2 : tie.Need-add-requires-2
@@ -47,7 +49,7 @@ same-length-2 : tie.Need-same-length-2
 same-length-2 c = search needs
 
 returns : tie.Need-returns
-returns c = let a = c .before .before .before .before .before .before .before .before .before .before .before .before .before .before .before .before .args in absurd (handle-never (a .offset) (a .size) refl (c .before .before .before .before .before .before .before .before .before .before .before .encode-to .ensures) (c .before .before .before .before .before .before .before .before .enum-told .given .1))
+returns c = let a = c .before .before .before .before .before .before .before .before .before .before .before .before .before .before .before .before .args in absurd (front-never 20 (handleBytes (record { offset = a .offset; size = a .size })) refl (handle-long (record { offset = a .offset; size = a .size })) (c .before .before .before .before .before .before .before .before .before .before .before .encode-to .ensures) (c .before .before .before .before .before .before .before .before .enum-told .given .1))
 
 same-length-3 : tie.Need-same-length-3
 same-length-3 c = search needs
@@ -58,7 +60,7 @@ same-length-4 c = search needs
 returns-2 : tie.Need-returns-2
 returns-2 c =
     let a = c .before .before .before .before .before .before .before .before .before .before .before .before .before .before .before .before .before .args in
-    rw (handle-put (a .offset) (a .size) refl (c .before .before .before .before .before .before .before .before .before .before .before .before .encode-to .ensures) (c .before .before .before .before .before .before .before .before .before .n .given .1) .1 .1) at (c .before .before .before .before .add2 .ensures)
+    rw (front-put 20 (handleBytes (record { offset = a .offset; size = a .size })) refl (handle-long (record { offset = a .offset; size = a .size })) (c .before .before .before .before .before .before .before .before .before .before .before .before .encode-to .ensures) (c .before .before .before .before .before .before .before .before .before .n .given .1) .1 .1) at (c .before .before .before .before .add2 .ensures)
 
 pub index-block-spec : {M : Type 1} → statement M
 index-block-spec =

@@ -5,8 +5,8 @@ use borrow.Author.Needs.{needs}
 use Rattle.builder.proofs.table_builder.options_fit.Statement.{statement}
 use Rattle.builder.proofs.table_builder.options_fit.Tie as tie
 
-between-requires : tie.Need-between-requires
-between-requires c κs = search needs
+within-requires : tie.Need-within-requires
+within-requires c κs = search needs
 
 filter-fits-requires : tie.Need-filter-fits-requires
 filter-fits-requires c κs = search needs
@@ -14,8 +14,8 @@ filter-fits-requires c κs = search needs
 both-requires : tie.Need-both-requires
 both-requires c κs = search needs
 
-between-requires-2 : tie.Need-between-requires-2
-between-requires-2 c κs = search needs
+within-requires-2 : tie.Need-within-requires-2
+within-requires-2 c κs = search needs
 
 both-requires-2 : tie.Need-both-requires-2
 both-requires-2 c κs = search needs
@@ -28,9 +28,9 @@ pub options-fit-spec : {M : Type 1} → statement M
 options-fit-spec =
     tie.close
     (tie.spec
-    between-requires
+    within-requires
     filter-fits-requires
     both-requires
-    between-requires-2
+    within-requires-2
     both-requires-2
     returns)

@@ -4,8 +4,9 @@ use native.Mathlib.Omega.{arith}
 use Rattle.codec.specs.Put.{put}
 use Rattle.codec.specs.Varint.{handleBytes}
 use Rattle.table.specs.Table.{magic}
-use Rattle.builder.proofs.WriteLaws.{handle-most}
-use Rattle.builder.proofs.FinishLaws.{front-never, foot-next, footer-is}
+use Rattle.codec.proofs.PutLaws.{front-never}
+use Rattle.codec.proofs.VarintLaws.{handle-long}
+use Rattle.builder.proofs.FinishLaws.{foot-next, footer-is}
 use borrow.Author.Needs.{needs}
 use Rattle.builder.proofs.table_builder.put_footer.Statement.{statement}
 use Rattle.builder.proofs.table_builder.put_footer.Tie as tie
@@ -46,7 +47,7 @@ put-bytes-requires-2 c κs = search needs
 returns : tie.Need-returns
 returns c =
     let a = c .before .before .before .before .before .before .args in
-    absurd (front-never 48 (handleBytes (record { offset = a .meta-offset; size = a .meta-size })) refl (omega (arith, handle-most (a .meta-offset) (a .meta-size))) (c .before .before .before .encode-to .ensures) (c .enum-told .given .1))
+    absurd (front-never 48 (handleBytes (record { offset = a .meta-offset; size = a .meta-size })) refl (omega (arith, handle-long (record { offset = a .meta-offset; size = a .meta-size }))) (c .before .before .before .encode-to .ensures) (c .enum-told .given .1))
 
 same-length : tie.Need-same-length
 same-length c = search needs

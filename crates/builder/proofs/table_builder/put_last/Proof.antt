@@ -3,7 +3,7 @@ use mathlib.Core.Path.{sym}
 use native.Mathlib.Omega.{arith}
 use lib.ListN.{take, length-take}
 use lib.Seq.{length-take-le}
-use Rattle.builder.proofs.FinishLaws.{front-never, front-put}
+use Rattle.codec.proofs.PutLaws.{front-never, front-put}
 use borrow.Author.Needs.{needs}
 use Rattle.builder.proofs.table_builder.put_last.Statement.{statement}
 use Rattle.builder.proofs.table_builder.put_last.Tie as tie

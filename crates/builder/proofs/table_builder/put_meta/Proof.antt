@@ -4,7 +4,9 @@ use native.Mathlib.Omega.{arith}
 use lib.Seq.{length-take-le}
 use Rattle.block.specs.Formed.{bloomName}
 use Rattle.table.specs.Build.{metaName}
-use Rattle.builder.proofs.WriteLaws.{handle-never, handle-put}
+use Rattle.codec.specs.Varint.{handleBytes}
+use Rattle.codec.proofs.PutLaws.{front-never, front-put}
+use Rattle.codec.proofs.VarintLaws.{handle-long}
 use Rattle.builder.proofs.FinishLaws.{name-none, name-bits, meta-framed}
 use borrow.Author.Needs.{needs}
 use Rattle.builder.proofs.table_builder.put_meta.Statement.{statement}
@@ -29,10 +31,10 @@ slice-aggregate-put-one : tie.Need-slice-aggregate-put-one
 slice-aggregate-put-one c = search needs
 
 array-share-prefix-handle : tie.Need-array-share-prefix-handle
-array-share-prefix-handle c = let a = c .before .before .before .before .before .before .before .before .before .before .before .args in let h = handle-put (a .offset) (a .size) refl (c .before .before .before .before .before .before .before .before .encode-to .ensures) (c .before .before .before .before .before .n .given .1) in omega (arith, h .0, h .1 .0)
+array-share-prefix-handle c = let a = c .before .before .before .before .before .before .before .before .before .before .before .args in let h = front-put 20 (handleBytes (record { offset = a .offset; size = a .size })) refl (handle-long (record { offset = a .offset; size = a .size })) (c .before .before .before .before .before .before .before .before .encode-to .ensures) (c .before .before .before .before .before .n .given .1) in omega (arith, h .0, h .1 .0)
 
 slice-aggregate-put-one-2 : tie.Need-slice-aggregate-put-one-2
-slice-aggregate-put-one-2 c = let a = c .before .before .before .before .before .before .before .before .before .before .before .before .args in let h = handle-put (a .offset) (a .size) refl (c .before .before .before .before .before .before .before .before .before .encode-to .ensures) (c .before .before .before .before .before .before .n .given .1) in sym (length-take-le _ _ (omega (arith, h .0, h .1 .0)))
+slice-aggregate-put-one-2 c = let a = c .before .before .before .before .before .before .before .before .before .before .before .before .args in let h = front-put 20 (handleBytes (record { offset = a .offset; size = a .size })) refl (handle-long (record { offset = a .offset; size = a .size })) (c .before .before .before .before .before .before .before .before .before .encode-to .ensures) (c .before .before .before .before .before .before .n .given .1) in sym (length-take-le _ _ (omega (arith, h .0, h .1 .0)))
 
 put-one-requires : tie.Need-put-one-requires
 put-one-requires c κs = search needs
@@ -44,16 +46,16 @@ slice-aggregate-put-one-3 : tie.Need-slice-aggregate-put-one-3
 slice-aggregate-put-one-3 c = search needs
 
 array-share-prefix-handle-2 : tie.Need-array-share-prefix-handle-2
-array-share-prefix-handle-2 c = let a = c .before .before .before .before .before .before .before .before .before .before .before .args in let h = handle-put (a .offset) (a .size) refl (c .before .before .before .before .before .before .before .before .encode-to .ensures) (c .before .before .before .before .before .n .given .1) in omega (arith, h .0, h .1 .0)
+array-share-prefix-handle-2 c = let a = c .before .before .before .before .before .before .before .before .before .before .before .args in let h = front-put 20 (handleBytes (record { offset = a .offset; size = a .size })) refl (handle-long (record { offset = a .offset; size = a .size })) (c .before .before .before .before .before .before .before .before .encode-to .ensures) (c .before .before .before .before .before .n .given .1) in omega (arith, h .0, h .1 .0)
 
 slice-aggregate-put-one-4 : tie.Need-slice-aggregate-put-one-4
-slice-aggregate-put-one-4 c = let a = c .before .before .before .before .before .before .before .before .before .before .before .before .args in let h = handle-put (a .offset) (a .size) refl (c .before .before .before .before .before .before .before .before .before .encode-to .ensures) (c .before .before .before .before .before .before .n .given .1) in sym (length-take-le _ _ (omega (arith, h .0, h .1 .0)))
+slice-aggregate-put-one-4 c = let a = c .before .before .before .before .before .before .before .before .before .before .before .before .args in let h = front-put 20 (handleBytes (record { offset = a .offset; size = a .size })) refl (handle-long (record { offset = a .offset; size = a .size })) (c .before .before .before .before .before .before .before .before .before .encode-to .ensures) (c .before .before .before .before .before .before .n .given .1) in sym (length-take-le _ _ (omega (arith, h .0, h .1 .0)))
 
 put-one-requires-2 : tie.Need-put-one-requires-2
 put-one-requires-2 c κs = search needs
 
 returns : tie.Need-returns
-returns c = let a = c .before .before .before .before .before .before .args in absurd (handle-never (a .offset) (a .size) refl (c .before .before .before .encode-to .ensures) (c .enum-told .given .1))
+returns c = let a = c .before .before .before .before .before .before .args in absurd (front-never 20 (handleBytes (record { offset = a .offset; size = a .size })) refl (handle-long (record { offset = a .offset; size = a .size })) (c .before .before .before .encode-to .ensures) (c .enum-told .given .1))
 
 same-length : tie.Need-same-length
 same-length c = search needs
@@ -62,7 +64,7 @@ returns-2 : tie.Need-returns-2
 unfolding metaName
 returns-2 c =
     let a = c .before .before .before .before .before .before .before .before .before .before .before .before .before .before .before .args in
-    let h = handle-put (a .offset) (a .size) refl (c .before .before .before .before .before .before .before .before .before .before .before .before .encode-to .ensures) (c .before .before .before .before .before .before .before .before .before .n .given .1) in
+    let h = front-put 20 (handleBytes (record { offset = a .offset; size = a .size })) refl (handle-long (record { offset = a .offset; size = a .size })) (c .before .before .before .before .before .before .before .before .before .before .before .before .encode-to .ensures) (c .before .before .before .before .before .before .before .before .before .n .given .1) in
     meta-framed (a .filter) (a .offset) (a .size) (name-none (a .filter) (c .before .before .before .before .before .before .enum-told2 .given .1)) (h .1 .1) (c .before .before .put-one .ensures)
 
 same-length-2 : tie.Need-same-length-2
@@ -72,7 +74,7 @@ returns-3 : tie.Need-returns-3
 unfolding metaName bloomName
 returns-3 c =
     let a = c .before .before .before .before .before .before .before .before .before .before .before .before .before .before .before .args in
-    let h = handle-put (a .offset) (a .size) refl (c .before .before .before .before .before .before .before .before .before .before .before .before .encode-to .ensures) (c .before .before .before .before .before .before .before .before .before .n .given .1) in
+    let h = front-put 20 (handleBytes (record { offset = a .offset; size = a .size })) refl (handle-long (record { offset = a .offset; size = a .size })) (c .before .before .before .before .before .before .before .before .before .before .before .before .encode-to .ensures) (c .before .before .before .before .before .before .before .before .before .n .given .1) in
     meta-framed (a .filter) (a .offset) (a .size) (name-bits (a .filter) (c .before .before .before .before .before .before .enum-told3 .given .1)) (h .1 .1) (c .before .before .put-one2 .ensures)
 
 pub put-meta-spec : {M : Type 1} → statement M

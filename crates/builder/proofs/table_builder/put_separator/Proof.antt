@@ -3,7 +3,9 @@ use mathlib.Core.Path.{sym}
 use native.Mathlib.Omega.{arith}
 use lib.ListN.{take, length-take}
 use lib.Seq.{length-take-le}
-use Rattle.builder.proofs.DecideLaws.{sep-never, sep-put}
+use Rattle.codec.proofs.PutLaws.{front-never, front-put}
+use Rattle.keys.specs.Order.{separator}
+use Rattle.builder.proofs.DecideLaws.{sep-most}
 use borrow.Author.Needs.{needs}
 use Rattle.builder.proofs.table_builder.put_separator.Statement.{statement}
 use Rattle.builder.proofs.table_builder.put_separator.Tie as tie
@@ -26,7 +28,7 @@ same-length c = search needs
 returns : tie.Need-returns
 returns c =
     let a = c .before .before .before .before .before .before .before .before .before .before in
-    absurd (sep-never (a .args .sep .now) (take (a .args .len) (a .args .last .now)) (a .args .key .now) _ _ (a .pre .0) (simp length-take (omega (arith, a .pre .1 .1))) (c .before .before .before .before .find-internal-sep .ensures) (c .enum-told .given .1))
+    absurd (front-never 1032 (separator (take (a .args .len) (a .args .last .now)) (a .args .key .now)) (a .pre .0) (let l = length-take (a .args .len) (a .args .last .now) in omega (arith, sep-most (take (a .args .len) (a .args .last .now)) (a .args .key .now), a .pre .1 .1)) (c .before .before .before .before .find-internal-sep .ensures) (c .enum-told .given .1))
 
 same-length-2 : tie.Need-same-length-2
 same-length-2 c = search needs
@@ -34,7 +36,7 @@ same-length-2 c = search needs
 returns-2 : tie.Need-returns-2
 returns-2 c =
     let a = c .before .before .before .before .before .before .before .before .before .before .before in
-    sep-put (a .args .sep .now) (take (a .args .len) (a .args .last .now)) (a .args .key .now) _ _ (a .pre .0) (simp length-take (omega (arith, a .pre .1 .1))) (c .before .before .before .before .before .find-internal-sep .ensures) _ (c .before .n .given .1)
+    front-put 1032 (separator (take (a .args .len) (a .args .last .now)) (a .args .key .now)) (a .pre .0) (let l = length-take (a .args .len) (a .args .last .now) in omega (arith, sep-most (take (a .args .len) (a .args .last .now)) (a .args .key .now), a .pre .1 .1)) (c .before .before .before .before .before .find-internal-sep .ensures) (c .before .n .given .1)
 
 pub put-separator-spec : {M : Type 1} → statement M
 put-separator-spec =

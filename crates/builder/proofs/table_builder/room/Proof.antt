@@ -1,5 +1,4 @@
 -- `builder::table_builder::room` meets its contract.
-use Rattle.table.specs.Options.{tableLimit}
 use Rattle.table.specs.Runs.{roomOf}
 use borrow.Author.Needs.{needs}
 use Rattle.builder.proofs.table_builder.room.Statement.{statement}
@@ -9,7 +8,7 @@ least-requires : tie.Need-least-requires
 least-requires c κs = search needs
 
 returns : tie.Need-returns
-unfolding roomOf tableLimit
+unfolding roomOf
 returns c = cc
 
 pub room-spec : {M : Type 1} → statement M

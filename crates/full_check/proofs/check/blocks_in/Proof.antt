@@ -19,7 +19,7 @@ use Rattle.full_check.specs.declared.check.DataRead.{DataRead}
 use Rattle.full_check.specs.declared.check.Verdict.the-variants as VerdictCase
 use Rattle.full_check.specs.Answers.{verdictOf}
 use Rattle.full_check.specs.Steps.{edgeOf, dataAt, DataJudged, blocksAt}
-use Rattle.full_check.proofs.KeyLaws.{front-put}
+use Rattle.codec.proofs.PutLaws.{put-start}
 use Rattle.full_check.proofs.DataLaws.{handle-same, BlocksLeft, blocks-start, blocks-end, blocks-stop, blocks-more}
 use borrow.Author.Needs.{needs}
 use Rattle.full_check.proofs.check.blocks_in.Statement.{statement}
@@ -194,7 +194,7 @@ loop-again c =
     let next = l .loop .at + k .before .key-len .given .0 .1 .1 .0 + k .before .key-len .given .0 .1 .1 .1 .0 in (
       scan-more (l .loop .inv .0) t (BlocksLeft (T l) (F l) (eqb next 0) (take (n k) (c .before .put-bytes .last .0)) (take m (last′ a))) (λ es rest left.
           blocks-more (T l) (F l) (eqb (l .loop .at) 0) (take (l .loop .len) (l .loop .before)) (take (l .loop .last-len) (l .loop .last)) es (t .step .here) rest left (t .key) (named a) (u .1 .1) next (omega (arith, t .step .up))
-          (ap (take (n k)) (c .before .put-bytes .ensures .left) ∙ front-put (l .loop .before) (take (n k) (key′ k)) (n k) (length-take-le (n k) (key′ k) (room k)) (omega (arith, l .loop .inv .1, t .step .room)) ∙ t .key) (u .1 .2)),
+          (ap (take (n k)) (c .before .put-bytes .ensures .left) ∙ put-start (l .loop .before) (take (n k) (key′ k)) (n k) (length-take-le (n k) (key′ k) (room k)) (omega (arith, l .loop .inv .1, t .step .room)) ∙ t .key) (u .1 .2)),
       c .before .put-bytes .kept .0 ∙ l .loop .inv .1,
       a .data-at .kept .1 .1 .1 .1 .0 ∙ l .loop .inv .2,
       t .step .room,

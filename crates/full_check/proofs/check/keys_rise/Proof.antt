@@ -15,7 +15,8 @@ use Rattle.block.proofs.EntryLaws.{Taken}
 use Rattle.block.proofs.RestLaws.{rest-bad, rest-taken}
 use Rattle.block.proofs.WalkLaws.{Scanning, scan-start, scan-bad, scan-end, scan-more, scan-hit}
 use Rattle.full_check.specs.Steps.{lessOf, after}
-use Rattle.full_check.proofs.KeyLaws.{front-put, RisesLeft, rises-start, rises-end, rises-more, rises-stop}
+use Rattle.codec.proofs.PutLaws.{put-start}
+use Rattle.full_check.proofs.KeyLaws.{RisesLeft, rises-start, rises-end, rises-more, rises-stop}
 use borrow.Author.Needs.{needs}
 use Rattle.full_check.proofs.check.keys_rise.Statement.{statement}
 use Rattle.full_check.proofs.check.keys_rise.Tie as tie
@@ -134,7 +135,7 @@ loop-again c =
     let l = lp k in
     let t = entry k in
     let next = l .loop .at + k .before .key-len .given .0 .1 .1 .0 + k .before .key-len .given .0 .1 .1 .1 .0 in
-    (scan-more (l .loop .inv .0) t (RisesLeft (kind l) (eqb next 0) (take (n k) (c .before .before .put-bytes .last .0))) (λ es rest left. rises-more (kind l) (eqb (l .loop .at) 0) (take (l .loop .len) (l .loop .last)) (t .step .here) es rest left next (compared (c .before .before .before .before .before .before) true (c .before .before .before .before .before .if1 .taken)) (omega (arith, t .step .up)) (ap (take (n k)) (c .before .before .put-bytes .ensures .left) ∙ front-put (l .loop .last) (take (n k) (key′ k)) (n k) (length-take-le (n k) (key′ k) (room k)) (omega (arith, l .loop .inv .1, t .step .room)) ∙ t .key)), c .before .before .put-bytes .kept .0 ∙ l .loop .inv .1, t .step .room)
+    (scan-more (l .loop .inv .0) t (RisesLeft (kind l) (eqb next 0) (take (n k) (c .before .before .put-bytes .last .0))) (λ es rest left. rises-more (kind l) (eqb (l .loop .at) 0) (take (l .loop .len) (l .loop .last)) (t .step .here) es rest left next (compared (c .before .before .before .before .before .before) true (c .before .before .before .before .before .if1 .taken)) (omega (arith, t .step .up)) (ap (take (n k)) (c .before .before .put-bytes .ensures .left) ∙ put-start (l .loop .last) (take (n k) (key′ k)) (n k) (length-take-le (n k) (key′ k) (room k)) (omega (arith, l .loop .inv .1, t .step .room)) ∙ t .key)), c .before .before .put-bytes .kept .0 ∙ l .loop .inv .1, t .step .room)
 
 same-length-2 : tie.Need-same-length-2 Inv-loop μ-loop
 same-length-2 c = let l = lp (c .before .before .before .before) in l .loop .inv .1 ∙ sym (l .before .before .before .pre)

@@ -3,8 +3,8 @@ use Prim.Native.Nat.{ℕ}
 use mathlib.Core.Path.{_∙_}
 use mathlib.Core.List.{List}
 use Rattle.keys.specs.Order.{Point}
-use Rattle.reader.proofs.LaterLaws.{sees-placed}
-use Rattle.reader.proofs.FindLaws.{find-refused, find-none, find-no-place, find-block}
+use Rattle.reader.proofs.LocateLaws.{sees-placed, sees-refused}
+use Rattle.reader.proofs.FindLaws.{seek-no-place, find-none, find-block}
 use borrow.Author.Needs.{needs}
 use Rattle.reader.proofs.table_reader.find.Statement.{statement}
 use Rattle.reader.proofs.table_reader.find.Tie as tie
@@ -55,7 +55,7 @@ same-length c = search needs
 returns : tie.Need-returns
 returns c =
     let l = c .before .before .before .before .before in
-    find-refused (T l) (start l .pre .0) (point l) (l .seek-index .ensures) (c .before .n .given .1)
+    sees-refused (l .seek-index .ensures) (c .before .n .given .1) (λ never q. absurd (never q))
 
 same-length-2 : tie.Need-same-length-2
 same-length-2 c = search needs
@@ -71,7 +71,7 @@ same-length-3 c = search needs
 returns-3 : tie.Need-returns-3
 returns-3 c =
     let l = c .before .before .before .before in
-    find-no-place (T l) (start l .pre .0) (point l) (l .seek-index .ensures) (c .enum-told2 .given .1)
+    seek-no-place (T l) (start l .pre .0) (point l) (l .seek-index .ensures) (c .enum-told2 .given .1) (λ never q. absurd (never q))
 
 same-length-4 : tie.Need-same-length-4
 same-length-4 c = search needs

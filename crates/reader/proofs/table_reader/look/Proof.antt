@@ -3,9 +3,10 @@ use Prim.Native.Nat.{ℕ}
 use mathlib.Core.Path.{_∙_}
 use mathlib.Core.List.{List}
 use Rattle.keys.specs.Order.{Point}
-use Rattle.reader.proofs.LaterLaws.{sees-placed}
-use Rattle.reader.proofs.CallLaws.{tells-short}
-use Rattle.reader.proofs.LookLaws.{look-refused, look-none, look-no-place, look-unheld, look-denied, look-block}
+use Rattle.reader.proofs.LocateLaws.{sees-placed, sees-refused}
+use Rattle.reader.proofs.AnswerLaws.{tells-short}
+use Rattle.reader.proofs.FindLaws.{seek-no-place}
+use Rattle.reader.proofs.LookLaws.{look-none, look-unheld, look-denied, look-block}
 use borrow.Author.Needs.{needs}
 use Rattle.reader.proofs.table_reader.look.Statement.{statement}
 use Rattle.reader.proofs.table_reader.look.Tie as tie
@@ -70,7 +71,7 @@ same-length c = search needs
 returns : tie.Need-returns
 returns c =
     let l = c .before .before .before .before .before in
-    look-refused (T l) (start l .pre .1) (point l) (l .seek-index .ensures) (c .before .n .given .1)
+    sees-refused (l .seek-index .ensures) (c .before .n .given .1) (λ never. (λ q. absurd (never q), tt))
 
 same-length-2 : tie.Need-same-length-2
 same-length-2 c = search needs
@@ -86,7 +87,7 @@ same-length-3 c = search needs
 returns-3 : tie.Need-returns-3
 returns-3 c =
     let l = c .before .before .before .before in
-    look-no-place (T l) (start l .pre .1) (point l) (l .seek-index .ensures) (c .enum-told2 .given .1)
+    seek-no-place (T l) (start l .pre .1) (point l) (l .seek-index .ensures) (c .enum-told2 .given .1) (λ never. (λ q. absurd (never q), tt))
 
 same-length-4 : tie.Need-same-length-4
 same-length-4 c = search needs

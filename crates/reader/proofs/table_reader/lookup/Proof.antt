@@ -2,7 +2,8 @@
 use mathlib.Core.Path.{sym, _∙_, refl, subst}
 use native.Mathlib.Omega.{arith}
 use Rattle.reader.specs.Parts.{Short}
-use Rattle.reader.proofs.CallLaws.{look-three, look-two, look-footed, look-found, footer-named, footer-indexed, tells-short}
+use Rattle.reader.proofs.CallLaws.{three, two, footed, look-refused, look-found, footer-named, footer-indexed}
+use Rattle.reader.proofs.AnswerLaws.{tells-short}
 use borrow.Author.Needs.{needs}
 use Rattle.reader.proofs.table_reader.lookup.Statement.{statement}
 use Rattle.reader.proofs.table_reader.lookup.Tie as tie
@@ -11,10 +12,10 @@ fits-requires : tie.Need-fits-requires
 fits-requires c κs = search needs
 
 returns : tie.Need-returns
-returns c = look-three _ _ _ (sym (c .before .fits2 .ensures) ∙ c .if1 .left)
+returns c = look-refused (three _ _ _ _ (sym (c .before .fits2 .ensures) ∙ c .if1 .left))
 
 returns-2 : tie.Need-returns-2
-returns-2 c = look-two _ _ _ (sym (c .before .before .fits2 .ensures) ∙ c .before .if1 .taken) (c .if2 .taken)
+returns-2 c = look-refused (two _ _ _ _ (sym (c .before .before .fits2 .ensures) ∙ c .before .if1 .taken) (c .if2 .taken))
 
 decode-requires : tie.Need-decode-requires
 decode-requires c κs = search needs
@@ -46,7 +47,7 @@ by-kind-requires : tie.Need-by-kind-requires
 by-kind-requires c κs = (omega arith, subst Short (sym (c .before .before .before .hand .ensures .0)) (tells-short (c .before .before .before .before .before .before .before .look .ensures)))
 
 returns-3 : tie.Need-returns-3
-returns-3 c = look-footed _ _ (c .before .before .before .before .if2 .left) (sym (c .before .before .before .decode .ensures) ∙ c .before .n .given .1) _ (sym (c .before .before .before .before .before .before .fits2 .ensures) ∙ c .before .before .before .before .before .if1 .taken)
+returns-3 c = look-refused (footed _ _ (c .before .before .before .before .if2 .left) (sym (c .before .before .before .decode .ensures) ∙ c .before .n .given .1) _ (sym (c .before .before .before .before .before .before .fits2 .ensures) ∙ c .before .before .before .before .before .if1 .taken))
 
 same-length : tie.Need-same-length
 same-length c = search needs

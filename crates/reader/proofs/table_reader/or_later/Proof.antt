@@ -1,5 +1,5 @@
 -- `reader::table_reader::or_later` meets its contract.
-use Rattle.reader.proofs.CallLaws.{or-kept, or-then, entry-apart, refused-apart}
+use Rattle.reader.proofs.CallLaws.{or-entry, or-refused, or-then}
 use borrow.Author.Needs.{needs}
 use Rattle.reader.proofs.table_reader.or_later.Statement.{statement}
 use Rattle.reader.proofs.table_reader.or_later.Tie as tie
@@ -17,10 +17,10 @@ first-after-requires : tie.Need-first-after-requires
 first-after-requires c κs = search needs
 
 returns : tie.Need-returns
-returns c = or-kept _ _ _ _ (c .before .answer .given .1) entry-apart
+returns c = or-entry _ _ _ _ (c .before .answer .given .1)
 
 returns-2 : tie.Need-returns-2
-returns-2 c = or-kept _ _ _ _ (c .before .answer2 .given .1) refused-apart
+returns-2 c = or-refused _ _ _ _ (c .before .answer2 .given .1)
 
 same-length : tie.Need-same-length
 same-length c = search needs

@@ -2,7 +2,7 @@
 use mathlib.Core.Path.{_∙_}
 use native.Mathlib.Omega.{arith}
 use Rattle.reader.proofs.PassedLaws.{placed-within}
-use Rattle.reader.proofs.HitLaws.{contents-is, picks-seek, said-adds, hit-says}
+use Rattle.reader.proofs.HitLaws.{contents-is, picks-seek, asks-order, said-adds, hit-says}
 use borrow.Author.Needs.{needs}
 use Rattle.reader.proofs.table_reader.seek_block.Statement.{statement}
 use Rattle.reader.proofs.table_reader.seek_block.Tie as tie
@@ -33,7 +33,7 @@ same-length c = search needs
 returns : tie.Need-returns
 returns c =
     let b = c .before .before .before .before .before .before .before .before .before in
-    hit-says (b .args .table .now) (record { offset = b .args .offset; size = b .args .size }) (b .args .index) (picks-seek _) (b .pre .0)
+    hit-says (b .args .table .now) (record { offset = b .args .offset; size = b .args .size }) (b .args .index) (picks-seek _) asks-order (b .pre .0)
     (rw (contents-is (b .args .table .now) (b .args .offset) (b .args .size)) at (c .before .before .before .seek .ensures)) (b .pre .1) (c .before .before .before .seek .kept .1 .1 .1 .0 ∙ b .pre .1) (c .hit .ensures)
 
 pub seek-block-spec : {M : Type 1} → statement M

@@ -1,8 +1,8 @@
 -- `reader::table_reader::seek_index` meets its contract.
 use native.Mathlib.Omega.{arith}
 use Rattle.reader.proofs.PassedLaws.{placed-within, indexed-placed}
-use Rattle.reader.proofs.HitLaws.{contents-is, picks-seek, said-inside}
-use Rattle.reader.proofs.LaterLaws.{index-sees, in-order}
+use Rattle.reader.proofs.HitLaws.{contents-is, picks-seek, asks-order, said-inside}
+use Rattle.reader.proofs.LocateLaws.{index-sees}
 use borrow.Author.Needs.{needs}
 use Rattle.reader.proofs.table_reader.seek_index.Statement.{statement}
 use Rattle.reader.proofs.table_reader.seek_index.Tie as tie
@@ -35,7 +35,7 @@ same-length c = search needs
 returns : tie.Need-returns
 returns c =
     let b = c .before .before .before .before .before .before .before .before .before in
-    index-sees (b .args .table .now) (b .pre .0) (picks-seek _) in-order (contents-is (b .args .table .now) (b .args .index-at) (b .args .index-size)) (c .before .before .before .seek .ensures) (b .pre .1) (c .locate .ensures)
+    index-sees (b .args .table .now) (b .pre .0) (picks-seek _) asks-order (contents-is (b .args .table .now) (b .args .index-at) (b .args .index-size)) (c .before .before .before .seek .ensures) (b .pre .1) (c .locate .ensures)
 
 pub seek-index-spec : {M : Type 1} → statement M
 seek-index-spec =

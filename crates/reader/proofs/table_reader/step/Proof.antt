@@ -1,7 +1,8 @@
 -- `reader::table_reader::step` meets its contract.
 use mathlib.Core.Path.{sym, _∙_, refl}
 use native.Mathlib.Omega.{arith}
-use Rattle.reader.proofs.CallLaws.{step-two, step-footed, step-found, footer-indexed, tells-short}
+use Rattle.reader.proofs.CallLaws.{step-two, step-footed, step-found, footer-indexed}
+use Rattle.reader.proofs.AnswerLaws.{tells-short}
 use borrow.Author.Needs.{needs}
 use Rattle.reader.proofs.table_reader.step.Statement.{statement}
 use Rattle.reader.proofs.table_reader.step.Tie as tie

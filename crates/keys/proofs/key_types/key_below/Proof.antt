@@ -1,10 +1,10 @@
--- `builder::table_builder::key_below` meets its contract.
+-- `keys::key_types::key_below` meets its contract.
 use mathlib.Core.Path.{sym, ap, _∙_}
 use Rattle.keys.specs.Order.{isLess, below}
 use Rattle.keys.proofs.AnswerLaws.{less-is, equal-is, greater-is}
 use borrow.Author.Needs.{needs}
-use Rattle.builder.proofs.table_builder.key_below.Statement.{statement}
-use Rattle.builder.proofs.table_builder.key_below.Tie as tie
+use Rattle.keys.proofs.key_types.key_below.Statement.{statement}
+use Rattle.keys.proofs.key_types.key_below.Tie as tie
 
 cmp-internal-key-requires : tie.Need-cmp-internal-key-requires
 cmp-internal-key-requires c κs = search needs
