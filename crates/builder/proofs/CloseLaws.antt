@@ -15,20 +15,20 @@ use Rattle.codec.specs.Varint.{handleBytes}
 use Rattle.codec.proofs.PutLaws.{put-put, put-behind, put-length}
 use Rattle.codec.proofs.TrailerLaws.{trailer-length}
 use Rattle.codec.proofs.VarintLaws.{handle-long}
-use Rattle.block.specs.declared.block_builder.BlockBuilder.{BlockBuilder}
-use Rattle.block.specs.declared.block_builder.Added.{Added}
-use Rattle.block.specs.Block.{Pair, packed, restartsOf}
-use Rattle.block.specs.Count.{BlockCount, countOf, countEntry, countSize}
-use Rattle.block.specs.Builder as Blocks
-use Rattle.block.specs.Builder.{countIn, newBuilder, builderAfter, builderWith, addable, countable, AddedIs, Counting}
-use Rattle.block.proofs.BuilderLaws.{stands-more, stands-finish, added-kept}
-use Rattle.block.proofs.BuilderCode.{addable-room, room-mark}
-use Rattle.filter.specs.FilterBlock.{Filtering, Filters, noFilters, wait, filtersUpTo, madeBytes, starts}
-use Rattle.filter.specs.declared.filter_block.Made.{Made}
-use Rattle.filter.specs.FilterCount.{FilterCount, filterCountOf}
-use Rattle.filter.specs.Choice.{choiceOf}
-use Rattle.filter.specs.Make.{groupsUpTo, roomFor, MadeFilters}
-use Rattle.filter.proofs.FilterBlockLaws.{made-append, starts-length}
+use Rattle.block_builder.specs.declared.block_builder.BlockBuilder.{BlockBuilder}
+use Rattle.block_builder.specs.declared.block_builder.Added.{Added}
+use Rattle.blocks.specs.Block.{Pair, packed, restartsOf}
+use Rattle.blocks.specs.Count.{BlockCount, countOf, countEntry, countSize}
+use Rattle.block_builder.specs.Builder as Blocks
+use Rattle.block_builder.specs.Builder.{countIn, newBuilder, builderAfter, builderWith, addable, countable, AddedIs, Counting}
+use Rattle.block_builder.proofs.BuilderLaws.{stands-more, stands-finish, added-kept}
+use Rattle.block_builder.proofs.BuilderCode.{addable-room, room-mark}
+use Rattle.filters.specs.FilterBlock.{Filtering, Filters, noFilters, wait, filtersUpTo, madeBytes, starts}
+use Rattle.filter_block.specs.declared.filter_block.Made.{Made}
+use Rattle.filters.specs.FilterCount.{FilterCount, filterCountOf}
+use Rattle.filter_block.specs.Choice.{choiceOf}
+use Rattle.filter_block.specs.Make.{groupsUpTo, roomFor, MadeFilters}
+use Rattle.filters.proofs.FilterBlockLaws.{made-append, starts-length}
 use Rattle.table.specs.Options.{Options, indexInterval, tableLimit}
 use Rattle.table.specs.Build.{Chunk, Building, pairOf, framed, chunkBytes, written, endOf, indexPairs, filtersOf, close}
 use Rattle.table.specs.Runs.{Runs, filtersNow, entriesOf, restartsIn, held, between, overlay, overlaid, FitsRoom}

@@ -10,7 +10,7 @@ use lib.ListN.{length, length-append, length-take}
 use borrow.Author.Tests.{leb-true, ltb-true, eq-eqb, ne-eqb}
 use Rattle.codec.proofs.Prelude.{test, both}
 use Rattle.keys.specs.Order.{bytesBelow, userOf, lastTag, userSep, separator, below}
-use Rattle.block.specs.Builder.{newBuilder}
+use Rattle.block_builder.specs.Builder.{newBuilder}
 use Rattle.table.specs.Options.{optionsFit}
 use Rattle.table.specs.Runs.{roomOf}
 use Rattle.table.specs.Counts.{finishedSize}

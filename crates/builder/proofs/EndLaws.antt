@@ -12,22 +12,22 @@ use lib.ListN.{length, take, length-append}
 use lib.Seq.{length-take-le}
 use Rattle.codec.specs.Put.{put}
 use Rattle.codec.specs.Varint.{handleBytes}
-use Rattle.block.specs.Block.{Pair, blockBytes}
-use Rattle.block.specs.Count.{entrySize, countSize}
-use Rattle.block.specs.Builder.{countIn}
-use Rattle.block.proofs.BuildLaws.{one-long}
-use Rattle.block.proofs.BuilderLaws.{stands-size}
-use Rattle.block.proofs.CountLaws.{entry-long}
-use Rattle.filter.specs.FilterBlock.{filterBlockOf}
-use Rattle.filter.specs.Choice.{choiceOf}
-use Rattle.filter.proofs.FilterBlockLaws.{block-of-long}
+use Rattle.blocks.specs.Block.{Pair, blockBytes}
+use Rattle.blocks.specs.Count.{entrySize, countSize}
+use Rattle.block_builder.specs.Builder.{countIn}
+use Rattle.blocks.proofs.BuildLaws.{one-long}
+use Rattle.block_builder.proofs.BuilderLaws.{stands-size}
+use Rattle.blocks.proofs.CountLaws.{entry-long}
+use Rattle.filters.specs.FilterBlock.{filterBlockOf}
+use Rattle.filter_block.specs.Choice.{choiceOf}
+use Rattle.filters.proofs.FilterBlockLaws.{block-of-long}
 use Rattle.table.specs.Build.{framed, metaName, footerBytes}
 use Rattle.table.specs.Runs.{overlay}
 use Rattle.table.specs.Counts.{handleSize}
 use Rattle.table.proofs.FrameLaws.{framed-length}
 use Rattle.builder.specs.declared.table_builder.Builder.{Builder}
 use Rattle.builder.specs.declared.table_builder.FilterSizes.{FilterSizes}
-use Rattle.filter.specs.FilterCount.{FilterCount, countLast}
+use Rattle.filters.specs.FilterCount.{FilterCount, countLast}
 use Rattle.table.specs.Counts.{finishedSize}
 use Rattle.builder.specs.declared.table_builder.Lengths.{Lengths}
 use Rattle.builder.specs.State.{optionsOf, countsIn}

@@ -10,18 +10,18 @@ use lib.Seq.{take-take}
 use Rattle.codec.specs.Bytes.{part}
 use Rattle.codec.specs.Put.{put}
 use Rattle.codec.proofs.PutLaws.{put-length}
-use Rattle.block.specs.declared.block_builder.BlockBuilder.{BlockBuilder}
-use Rattle.block.specs.declared.block_builder.Added.{Added}
-use Rattle.block.specs.Block.{Pair, packed, restartsOf}
-use Rattle.block.specs.Count.{BlockCount, countOf, countEntry}
-use Rattle.block.specs.Builder as Blocks
-use Rattle.block.specs.Builder.{countIn, builderAfter, builderWith, AddedIs}
-use Rattle.block.proofs.BuilderLaws.{stands-more, added-kept, added-did}
-use Rattle.block.proofs.BuilderCode.{next-bytes, next-restarts}
-use Rattle.filter.specs.Filter.{hash}
-use Rattle.filter.specs.FilterBlock.{Filters, wait}
-use Rattle.filter.specs.FilterCount.{countWaiting}
-use Rattle.filter.proofs.FilterCountLaws.{wait-append}
+use Rattle.block_builder.specs.declared.block_builder.BlockBuilder.{BlockBuilder}
+use Rattle.block_builder.specs.declared.block_builder.Added.{Added}
+use Rattle.blocks.specs.Block.{Pair, packed, restartsOf}
+use Rattle.blocks.specs.Count.{BlockCount, countOf, countEntry}
+use Rattle.block_builder.specs.Builder as Blocks
+use Rattle.block_builder.specs.Builder.{countIn, builderAfter, builderWith, AddedIs}
+use Rattle.block_builder.proofs.BuilderLaws.{stands-more, added-kept, added-did}
+use Rattle.block_builder.proofs.BuilderCode.{next-bytes, next-restarts}
+use Rattle.filters.specs.Filter.{hash}
+use Rattle.filters.specs.FilterBlock.{Filters, wait}
+use Rattle.filters.specs.FilterCount.{countWaiting}
+use Rattle.filters.proofs.FilterCountLaws.{wait-append}
 use Rattle.table.specs.Options.{Options, indexInterval, Addition}
 use Rattle.table.specs.Build.{Building, keyOf, pairOf, written}
 use Rattle.table.specs.Runs.{Runs, filtersNow, entriesOf, restartsIn, held, between, overlay, overlaid, FitsRoom}

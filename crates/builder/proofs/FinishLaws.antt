@@ -16,20 +16,20 @@ use Rattle.codec.specs.declared.put.Written.the-variants.{At}
 use Rattle.codec.proofs.PutLaws.{put-put, put-room, wrote-next}
 use Rattle.codec.proofs.TrailerLaws.{trailer-length}
 use Rattle.codec.proofs.VarintLaws.{handle-long}
-use Rattle.block.specs.declared.block_builder.BlockBuilder.{BlockBuilder}
-use Rattle.block.specs.declared.block_builder.Added.{Added}
-use Rattle.block.specs.Block.{Pair, packed, restartsOf, tailBytes, blockBytes}
-use Rattle.block.specs.Count.{BlockCount, countOf, countEntry, countSize}
-use Rattle.block.proofs.CountLaws.{count-size}
-use Rattle.block.proofs.BuildLaws.{block-length}
-use Rattle.block.specs.Builder as Blocks
-use Rattle.block.specs.Builder.{countIn, newBuilder, builderAfter, builderWith, nextBytes, AddedIs}
-use Rattle.block.proofs.BuilderLaws.{counting-none, after-is, stands-none, stands-more, stands-size, added-did}
-use Rattle.block.proofs.BuilderCode.{next-bytes}
-use Rattle.filter.specs.declared.filter.Filter as FilterEnum
-use Rattle.filter.specs.declared.filter.Filter.the-variants as FilterCase
-use Rattle.filter.specs.FilterBlock.{unfiltered, bitsPerKey}
-use Rattle.filter.specs.Choice.{choiceOf}
+use Rattle.block_builder.specs.declared.block_builder.BlockBuilder.{BlockBuilder}
+use Rattle.block_builder.specs.declared.block_builder.Added.{Added}
+use Rattle.blocks.specs.Block.{Pair, packed, restartsOf, tailBytes, blockBytes}
+use Rattle.blocks.specs.Count.{BlockCount, countOf, countEntry, countSize}
+use Rattle.blocks.proofs.CountLaws.{count-size}
+use Rattle.blocks.proofs.BuildLaws.{block-length}
+use Rattle.block_builder.specs.Builder as Blocks
+use Rattle.block_builder.specs.Builder.{countIn, newBuilder, builderAfter, builderWith, nextBytes, AddedIs}
+use Rattle.block_builder.proofs.BuilderLaws.{counting-none, after-is, stands-none, stands-more, stands-size, added-did}
+use Rattle.block_builder.proofs.BuilderCode.{next-bytes}
+use Rattle.filter_block.specs.declared.filter.Filter as FilterEnum
+use Rattle.filter_block.specs.declared.filter.Filter.the-variants as FilterCase
+use Rattle.filters.specs.FilterBlock.{unfiltered, bitsPerKey}
+use Rattle.filter_block.specs.Choice.{choiceOf}
 use Rattle.table.specs.Build.{framed, metaName, footerBytes}
 use Rattle.table.specs.Table.{magic}
 use Rattle.table.specs.Runs.{Runs}

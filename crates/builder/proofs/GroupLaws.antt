@@ -6,9 +6,9 @@ use native.Mathlib.Nat.{add-zero}
 use native.Mathlib.Omega.{arith}
 use lib.ListN.{length, replicate, length-append}
 use Rattle.codec.proofs.Prelude.{split}
-use Rattle.filter.specs.FilterBlock.{Filtering, Filters, filterFor, makeFilter, makeFilters, madeBytes, starts}
-use Rattle.filter.specs.Make.{groupsUpTo}
-use Rattle.filter.proofs.MakeLaws.{groups-none, groups-some}
+use Rattle.filters.specs.FilterBlock.{Filtering, Filters, filterFor, makeFilter, makeFilters, madeBytes, starts}
+use Rattle.filter_block.specs.Make.{groupsUpTo}
+use Rattle.filter_block.proofs.MakeLaws.{groups-none, groups-some}
 
 makes-none : (n : ℕ) (f : Filters) → f .waiting ≡ [] → (makeFilters n f .made ≡ f .made ++ replicate n []) × (makeFilters n f .waiting ≡ [])
 unfolding makeFilters makeFilter

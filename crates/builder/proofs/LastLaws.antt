@@ -10,16 +10,16 @@ use lib.ListN.{length, take, length-append}
 use Rattle.codec.proofs.Lists.{no-length}
 use borrow.Author.Tests.{le-leb}
 use Rattle.codec.proofs.Prelude.{split}
-use Rattle.block.specs.Block.{packed, restartsOf}
-use Rattle.block.specs.Count.{BlockCount, countOf}
-use Rattle.block.specs.Builder.{countIn}
-use Rattle.block.proofs.CountLaws.{count-zero}
-use Rattle.filter.specs.FilterBlock.{Filtering, Filters, noFilters, makeFilter, lastFilter, madeBytes, starts, filterBlockOf, filterBlockBytes}
-use Rattle.filter.specs.FilterCount.{FilterCount, filterCountOf, countLast}
-use Rattle.filter.specs.Choice.{choiceOf}
-use Rattle.filter.specs.Make.{groupsUpTo, roomFor, MadeFilters}
-use Rattle.filter.proofs.FilterBlockLaws.{made-append, starts-length}
-use Rattle.filter.proofs.FilterCountLaws.{count-last, last-kept}
+use Rattle.blocks.specs.Block.{packed, restartsOf}
+use Rattle.blocks.specs.Count.{BlockCount, countOf}
+use Rattle.block_builder.specs.Builder.{countIn}
+use Rattle.blocks.proofs.CountLaws.{count-zero}
+use Rattle.filters.specs.FilterBlock.{Filtering, Filters, noFilters, makeFilter, lastFilter, madeBytes, starts, filterBlockOf, filterBlockBytes}
+use Rattle.filters.specs.FilterCount.{FilterCount, filterCountOf, countLast}
+use Rattle.filter_block.specs.Choice.{choiceOf}
+use Rattle.filter_block.specs.Make.{groupsUpTo, roomFor, MadeFilters}
+use Rattle.filters.proofs.FilterBlockLaws.{made-append, starts-length}
+use Rattle.filters.proofs.FilterCountLaws.{count-last, last-kept}
 use Rattle.table.specs.Checked.{pass}
 use Rattle.table.specs.Options.{Options, indexInterval, Addition}
 use Rattle.table.specs.Build as Build
@@ -40,7 +40,7 @@ use Rattle.builder.proofs.SizeLaws as Size
 use Rattle.builder.proofs.DecideLaws.{sane-is, last-short}
 use Rattle.builder.proofs.AddLaws.{early-zero, early-traced}
 use Rattle.table.proofs.OverlayLaws.{overlay-none, overlay-front, overlay-put, overlay-long}
-use Rattle.filter.proofs.MakeLaws.{groups-some}
+use Rattle.filter_block.proofs.MakeLaws.{groups-some}
 use Rattle.builder.proofs.GroupLaws.{starts-append}
 use Rattle.builder.proofs.CloseLaws.{Counted, Rooms, lens, counting, index-stands, filters-is, filtered-is, made-is, waiting-is, written-is, options-filter, options-interval, made-room, closed-counted, waits-close, closed-all}
 use Rattle.builder.proofs.TraceLaws.{stands-counted, trace-began, trace-fits, trace-small, trace-is-small, trace-sane, last-is}

@@ -14,22 +14,22 @@ use Rattle.codec.specs.Put.{put}
 use Rattle.codec.proofs.Prelude.{test, split, both}
 use Rattle.codec.proofs.PutLaws.{put-front}
 use Rattle.codec.proofs.VarintLaws.{varint-bytes-length}
-use Rattle.block.specs.declared.block_builder.BlockBuilder.{BlockBuilder}
-use Rattle.block.specs.declared.block_builder.Counted.{Counted}
-use Rattle.block.specs.Block.{since, sharing}
+use Rattle.block_builder.specs.declared.block_builder.BlockBuilder.{BlockBuilder}
+use Rattle.block_builder.specs.declared.block_builder.Counted.{Counted}
+use Rattle.blocks.specs.Block.{since, sharing}
 use Rattle.codec.specs.Limits.{within}
-use Rattle.block.specs.Formed.{bloomName}
-use Rattle.block.specs.Count.{BlockCount, noEntries, varintSize, entrySize, countEntry, countSize}
-use Rattle.block.specs.Builder.{countIn, newBuilder, builderWith, builderAfter, countable, CountedIs}
-use Rattle.block.proofs.BuilderLaws.{counting-none}
-use Rattle.block.proofs.BuilderCode.{fits-all}
-use Rattle.block.proofs.CountLaws.{count-none}
-use Rattle.filter.specs.declared.filter.Filter as FilterEnum
-use Rattle.filter.specs.declared.filter.Filter.the-variants as FilterCase
-use Rattle.filter.specs.Filter.{filterSize}
-use Rattle.filter.specs.FilterBlock.{Filtering, unfiltered, bitsPerKey}
-use Rattle.filter.specs.FilterCount.{FilterCount, filterBytesOf, countMade, countUpTo, countLast, filterBlockSize}
-use Rattle.filter.specs.Choice.{choiceOf}
+use Rattle.blocks.specs.Formed.{bloomName}
+use Rattle.blocks.specs.Count.{BlockCount, noEntries, varintSize, entrySize, countEntry, countSize}
+use Rattle.block_builder.specs.Builder.{countIn, newBuilder, builderWith, builderAfter, countable, CountedIs}
+use Rattle.block_builder.proofs.BuilderLaws.{counting-none}
+use Rattle.block_builder.proofs.BuilderCode.{fits-all}
+use Rattle.blocks.proofs.CountLaws.{count-none}
+use Rattle.filter_block.specs.declared.filter.Filter as FilterEnum
+use Rattle.filter_block.specs.declared.filter.Filter.the-variants as FilterCase
+use Rattle.filters.specs.Filter.{filterSize}
+use Rattle.filters.specs.FilterBlock.{Filtering, unfiltered, bitsPerKey}
+use Rattle.filters.specs.FilterCount.{FilterCount, filterBytesOf, countMade, countUpTo, countLast, filterBlockSize}
+use Rattle.filter_block.specs.Choice.{choiceOf}
 use Rattle.table.specs.Options.{Options, indexInterval, optionsFit, filteringFits, tableLimit}
 use Rattle.table.specs.Build.{metaName}
 use Rattle.table.specs.Counts.{handleSize, countClose, countCloseLast, metaSize, finishedSize}

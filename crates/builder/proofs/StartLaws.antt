@@ -4,12 +4,12 @@ use mathlib.Core.Path.{_≡_, refl, sym, ap, _∙_}
 use mathlib.Core.Bool.{Bool, true, false, _&&_}
 use native.Mathlib.Omega.{arith}
 use lib.ListN.{length-replicate}
-use Rattle.block.specs.Builder.{newBuilder}
-use Rattle.block.specs.Block.{packed, restartsOf}
-use Rattle.block.proofs.BuilderLaws.{counting-none}
-use Rattle.block.proofs.CountLaws.{count-none}
-use Rattle.filter.specs.Choice.{choiceOf}
-use Rattle.filter.specs.FilterBlock.{noFilters, wait, madeBytes, starts}
+use Rattle.block_builder.specs.Builder.{newBuilder}
+use Rattle.blocks.specs.Block.{packed, restartsOf}
+use Rattle.block_builder.proofs.BuilderLaws.{counting-none}
+use Rattle.blocks.proofs.CountLaws.{count-none}
+use Rattle.filter_block.specs.Choice.{choiceOf}
+use Rattle.filters.specs.FilterBlock.{noFilters, wait, madeBytes, starts}
 use Rattle.table.specs.Checked.{Checked, pass, refuse, _>>=_, ask}
 use Rattle.table.specs.Options.{Options, indexInterval, optionsFit}
 use Rattle.table.specs.Build.{begin, written, indexPairs, filtersOf}

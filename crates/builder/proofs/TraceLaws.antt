@@ -10,11 +10,11 @@ use borrow.Author.Tests.{le-leb, leb-true, eq-eqb}
 use Rattle.codec.proofs.Prelude.{test, both, is-true, true-is}
 use Rattle.keys.specs.Order.{below, separator}
 use Rattle.keys.proofs.KeyLaws.{internal-length}
-use Rattle.block.specs.Block.{Pair, sinceAll}
+use Rattle.blocks.specs.Block.{Pair, sinceAll}
 use Rattle.codec.specs.Limits.{within}
-use Rattle.block.specs.Count.{BlockCount, countOf}
-use Rattle.block.specs.Builder.{countIn, builderAfter, builderWith}
-use Rattle.block.proofs.CountLaws.{count-zero}
+use Rattle.blocks.specs.Count.{BlockCount, countOf}
+use Rattle.block_builder.specs.Builder.{countIn, builderAfter, builderWith}
+use Rattle.blocks.proofs.CountLaws.{count-zero}
 use Rattle.table.specs.Checked.{Checked, pass, refuse, _>>=_, ask}
 use Rattle.table.specs.Options.{Options, indexInterval, optionsFit, emptySize, tableLimit, Addition, additionFits}
 use Rattle.table.specs.Build.{Building, keyOf, pairOf, chunkBytes, begin, lastKey, indexPairs, close, closeBefore, add, finish, above, accept, acceptAll}

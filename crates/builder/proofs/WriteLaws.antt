@@ -10,14 +10,14 @@ use Rattle.codec.specs.Checksum.{trailer}
 use Rattle.codec.specs.Put.{put}
 use Rattle.codec.specs.Varint.{handleBytes}
 use Rattle.codec.proofs.PutLaws.{put-sets, put-full}
-use Rattle.block.specs.declared.block_builder.BlockBuilder.{BlockBuilder}
-use Rattle.block.specs.Block.{tailBytes}
-use Rattle.block.specs.Count.{countSize}
-use Rattle.block.specs.declared.block_builder.Added.{Added}
-use Rattle.block.specs.Builder.{countIn, AddedIs}
-use Rattle.filter.specs.declared.filter_block.Made.{Made}
-use Rattle.filter.specs.Choice.{choiceOf}
-use Rattle.filter.specs.Make.{groupsUpTo, MadeFilters}
+use Rattle.block_builder.specs.declared.block_builder.BlockBuilder.{BlockBuilder}
+use Rattle.blocks.specs.Block.{tailBytes}
+use Rattle.blocks.specs.Count.{countSize}
+use Rattle.block_builder.specs.declared.block_builder.Added.{Added}
+use Rattle.block_builder.specs.Builder.{countIn, AddedIs}
+use Rattle.filter_block.specs.declared.filter_block.Made.{Made}
+use Rattle.filter_block.specs.Choice.{choiceOf}
+use Rattle.filter_block.specs.Make.{groupsUpTo, MadeFilters}
 use Rattle.table.specs.Runs.{Runs}
 use Rattle.builder.specs.declared.table_builder.Builder.{Builder}
 use Rattle.builder.specs.Steps.{Small, openSize, endsAt, cutOf, sepOf}

@@ -5,10 +5,10 @@ use mathlib.Core.List.{List}
 use mathlib.Core.Bool.{Bool, false, _&&_}
 use lib.Dec.{eqb, leb}
 use lib.ListN.{length}
-use Rattle.block.specs.Builder.{countIn, newBuilder}
-use Rattle.filter.specs.FilterBlock.{Filtering}
-use Rattle.filter.specs.Choice.{choiceOf}
-use Rattle.filter.specs.declared.filter.Filter.the-variants as FilterCase
+use Rattle.block_builder.specs.Builder.{countIn, newBuilder}
+use Rattle.filters.specs.FilterBlock.{Filtering}
+use Rattle.filter_block.specs.Choice.{choiceOf}
+use Rattle.filter_block.specs.declared.filter.Filter.the-variants as FilterCase
 use Rattle.table.specs.Options.{Options, indexInterval, optionsFit, emptySize}
 use Rattle.table.specs.Build.{Building}
 use Rattle.table.specs.Checked.{pass}

@@ -7,11 +7,11 @@ use mathlib.Core.Bool.{Bool, true, _&&_, cond}
 use lib.Dec.{eqb, leb, ltb}
 use lib.ListN.{length, take}
 use Rattle.keys.specs.Order.{below, separator}
-use Rattle.block.specs.Count.{entrySize, countSize}
-use Rattle.block.specs.Builder.{countIn, newBuilder, builderAfter}
-use Rattle.filter.specs.FilterBlock.{Filtering}
-use Rattle.filter.specs.FilterCount.{FilterCount, countUpTo, countLast}
-use Rattle.filter.specs.Choice.{choiceOf}
+use Rattle.blocks.specs.Count.{entrySize, countSize}
+use Rattle.block_builder.specs.Builder.{countIn, newBuilder, builderAfter}
+use Rattle.filters.specs.FilterBlock.{Filtering}
+use Rattle.filters.specs.FilterCount.{FilterCount, countUpTo, countLast}
+use Rattle.filter_block.specs.Choice.{choiceOf}
 use Rattle.table.specs.Options.{filteringFits, tableLimit}
 use Rattle.table.specs.Build.{metaName}
 use Rattle.table.specs.Runs.{roomOf}

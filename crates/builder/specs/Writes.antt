@@ -9,17 +9,17 @@ use Rattle.codec.specs.Bytes.{part}
 use Rattle.codec.specs.Checksum.{trailer}
 use Rattle.codec.specs.Put.{put}
 use Rattle.codec.specs.Varint.{handleBytes}
-use Rattle.block.specs.declared.block_builder.BlockBuilder.{BlockBuilder}
-use Rattle.block.specs.declared.block_builder.Added.{Added}
-use Rattle.block.specs.Block.{Pair, tailBytes, blockBytes}
-use Rattle.block.specs.Builder as Blocks
-use Rattle.block.specs.Count.{countSize}
-use Rattle.block.specs.Builder.{countIn, AddedIs}
-use Rattle.filter.specs.declared.filter_block.Made.{Made}
-use Rattle.filter.specs.Choice.{choiceOf}
-use Rattle.filter.specs.Filter.{hash}
-use Rattle.filter.specs.FilterBlock.{filterBlockOf}
-use Rattle.filter.specs.Make.{groupsUpTo, MadeFilters}
+use Rattle.block_builder.specs.declared.block_builder.BlockBuilder.{BlockBuilder}
+use Rattle.block_builder.specs.declared.block_builder.Added.{Added}
+use Rattle.blocks.specs.Block.{Pair, tailBytes, blockBytes}
+use Rattle.block_builder.specs.Builder as Blocks
+use Rattle.blocks.specs.Count.{countSize}
+use Rattle.block_builder.specs.Builder.{countIn, AddedIs}
+use Rattle.filter_block.specs.declared.filter_block.Made.{Made}
+use Rattle.filter_block.specs.Choice.{choiceOf}
+use Rattle.filters.specs.Filter.{hash}
+use Rattle.filters.specs.FilterBlock.{filterBlockOf}
+use Rattle.filter_block.specs.Make.{groupsUpTo, MadeFilters}
 use Rattle.table.specs.Build.{framed, metaName, footerBytes}
 use Rattle.table.specs.Runs.{Runs, overlay}
 use Rattle.builder.specs.declared.table_builder.Answer.{Answer}

@@ -8,14 +8,14 @@ ghost use lib.Dec.{eqb, leb};
 ghost use lib.ListN.{length, take};
 ghost use Rattle.codec.specs.Put.{put};
 ghost use Rattle.codec.specs.Varint.{handleBytes};
-ghost use Rattle.block.specs.Block.{blockBytes};
-ghost use Rattle.block.specs.Count.{countSize};
-ghost use Rattle.block.specs.Builder as Blocks;
-ghost use Rattle.block.specs.Builder.{countIn};
-ghost use Rattle.filter.specs.Choice.{choiceOf};
-ghost use Rattle.filter.specs.FilterBlock.{filterBlockOf};
-ghost use Rattle.filter.specs.Make.{groupsUpTo, MadeFilters};
-ghost use Rattle.filter.specs.FilterCount.{filterBytesOf, countMade, countLast};
+ghost use Rattle.blocks.specs.Block.{blockBytes};
+ghost use Rattle.blocks.specs.Count.{countSize};
+ghost use Rattle.block_builder.specs.Builder as Blocks;
+ghost use Rattle.block_builder.specs.Builder.{countIn};
+ghost use Rattle.filter_block.specs.Choice.{choiceOf};
+ghost use Rattle.filters.specs.FilterBlock.{filterBlockOf};
+ghost use Rattle.filter_block.specs.Make.{groupsUpTo, MadeFilters};
+ghost use Rattle.filters.specs.FilterCount.{filterBytesOf, countMade, countLast};
 ghost use Rattle.keys.specs.Order.{below, separator, internal};
 ghost use Rattle.table.specs.Options.{optionsFit, filteringFits, emptySize, additionFits};
 ghost use Rattle.table.specs.Build.{metaName, footerBytes};
@@ -25,12 +25,12 @@ ghost use Rattle.builder.specs.State.{optionsOf, countsIn, seven, runsFi
 ghost use Rattle.builder.specs.Answers.{StartedIs, AddedIs, FinishedIs};
 ghost use Rattle.builder.specs.Steps.{small, Small, filterCountIn, closedState, lastOf, Roomy, enteredState, lastState, metaLen, Whole, cutOf, midOf, aboveLast, fitsOf, earlyOf, Ready, DecidedIs, EndingIs};
 ghost use Rattle.builder.specs.Writes.{sealedOut, ClosedRuns, CutRuns, EnteredRuns, PutIs, LastRuns, LastFilters, Framed, IndexPut, EndFits, EndPut, EndRuns};
-use block::block_builder::BlockBuilder;
+use block_builder::block_builder::BlockBuilder;
 use codec::put::Written;
 use codec::varint::varint_len;
-use filter::filter::Filter;
-use filter::filter_block::Made;
-use table::footer::TABLE_LIMIT;
+use filter_block::filter::Filter;
+use filter_block::filter_block::Made;
+use table_block::footer::TABLE_LIMIT;
 
 // Restart interval, block size and filter choice.
 pub struct Options {
@@ -331,7 +331,7 @@ fn made_until(choice: Filter, n: usize, bytes: usize, made: usize, waiting: usiz
             waiting: waiting,
         };
     }
-    let more = filter::filter::filter_bytes(choice, waiting);
+    let more = filter_block::filter::filter_bytes(choice, waiting);
     FilterSizes {
         bytes: bytes + more,
         made: n,
@@ -612,7 +612,7 @@ fn index_block(
     key: &[u8],
     offset: usize,
     size: usize,
-) -> block::block_builder::Added
+) -> block_builder::block_builder::Added
     ensures { λ r. ⌜ Blocks.AddedIs indexed 0 (now (index .entry)) (now (index .exit)) (now (restarts .entry)) (now (restarts .exit)) (now (key .entry)) (handleBytes (record { offset = offset; size = size })) r ⌝ }
 {
     let mut handle = [0u8; 20];
@@ -636,7 +636,7 @@ fn filter_blocks(
     ensures { λ r. ⌜ MadeFilters (choiceOf choice) (groupsUpTo made n (take waiting (now (hashes .entry)))) bytes made r (now (filters .entry)) (now (filters .exit)) (now (offsets .entry)) (now (offsets .exit)) ⌝ }
 {
     let k = codec::limits::least(waiting, hashes.len());
-    filter::filter_block::make_filters(choice, &hashes[..k], n, filters, bytes, offsets, made)
+    filter_block::filter_block::make_filters(choice, &hashes[..k], n, filters, bytes, offsets, made)
 }
 
 // Writes the open block, indexes it under a key, and makes filters up to where it ends.
@@ -732,7 +732,7 @@ fn write_entry(
 {
     let pending = s.pending;
     pending.add(out, s.written, restarts, key, value);
-    push_hash(hashes, s.waiting, filter::filter::bloom_hash(word));
+    push_hash(hashes, s.waiting, filter_block::filter::bloom_hash(word));
 }
 
 // The internal key of an addition goes to the front of key; how many bytes it has.
@@ -871,7 +871,7 @@ fn put_filter(
     requires { ⌜ (bytes ≤ length (now filters)) × (made ≤ length (now offsets)) ⌝ }
     ensures { λ _. ⌜ (size ≡ length (filterBlockOf (take bytes (now (filters .entry))) (take made (now (offsets .entry)))) → Framed (now (out .entry)) at (filterBlockOf (take bytes (now (filters .entry))) (take made (now (offsets .entry)))) (now (out .exit))) ⌝ }
 {
-    filter::filter_block::finish(out, at, &filters[..bytes], &offsets[..made]);
+    filter_block::filter_block::finish(out, at, &filters[..bytes], &offsets[..made]);
     codec::trailer::put_trailer(out, at, size);
 }
 

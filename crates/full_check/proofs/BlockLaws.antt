@@ -11,14 +11,14 @@ use Rattle.codec.specs.Checksum.{sealOf, trailer, trailerStands}
 use Rattle.codec.proofs.BytesLaws.{same-bytes, bytes-length, part-between}
 use Rattle.codec.proofs.MaybeLaws.{getting}
 use Rattle.codec.proofs.Prelude.{is-true, true-is}
-use Rattle.block.specs.declared.block.RowsRead.the-variants as RowsCase
-use Rattle.block.specs.Block.{Entry, pairsOf}
-use Rattle.block.specs.Formed.{Kind, wellFormed, isFormed, rises}
-use Rattle.block.specs.Search.{readable}
-use Rattle.block.specs.Steps.{Rows, rowsOf, rowsAnswer, Laid, readFrom}
-use Rattle.block.proofs.FormedLaws.{formed-readable}
-use Rattle.block.proofs.LayoutLaws.{laid, no-block}
-use Rattle.block.proofs.SeekLaws.{read-whole}
+use Rattle.block_reader.specs.declared.block.RowsRead.the-variants as RowsCase
+use Rattle.blocks.specs.Block.{Entry, pairsOf}
+use Rattle.blocks.specs.Formed.{Kind, wellFormed, isFormed, rises}
+use Rattle.blocks.specs.Search.{readable}
+use Rattle.block_reader.specs.Steps.{Rows, rowsOf, rowsAnswer, Laid, readFrom}
+use Rattle.blocks.proofs.FormedLaws.{formed-readable}
+use Rattle.block_reader.proofs.LayoutLaws.{laid, no-block}
+use Rattle.block_reader.proofs.SeekLaws.{read-whole}
 use Rattle.table.specs.Checked.{Checked, pass, refuse, _>>=_, ask, orRefuse}
 use Rattle.table.specs.Table.{contents, sealed}
 use Rattle.table.proofs.CheckedLaws.{passing, asking, orRefuse-pass, pass-same}

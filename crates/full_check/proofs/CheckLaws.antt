@@ -9,18 +9,18 @@ use Rattle.codec.specs.Checksum.{trailerStands}
 use Rattle.codec.specs.Varint.{Handle}
 use Rattle.codec.proofs.BytesLaws.{part-between}
 use Rattle.keys.specs.Order.{userOf, below}
-use Rattle.block.specs.declared.block.Kind.the-variants as KindCase
-use Rattle.block.specs.Block.{Pair, Entry, lastKeyOf, pairsOf}
-use Rattle.block.specs.Formed.{all, rises}
-use Rattle.block.specs.Search.{kindOf}
-use Rattle.filter.specs.Filter.{hash}
-use Rattle.filter.specs.FilterBlock.{filterFormed, mayMatch}
-use Rattle.table.specs.declared.footer.FooterRead.the-variants as FooterCase
-use Rattle.table.specs.declared.table_block.FilterRead.the-variants as FilterCase
-use Rattle.table.specs.Answers.{footerAnswer, bloomAnswer}
+use Rattle.block_reader.specs.declared.block.Kind.the-variants as KindCase
+use Rattle.blocks.specs.Block.{Pair, Entry, lastKeyOf, pairsOf}
+use Rattle.blocks.specs.Formed.{all, rises}
+use Rattle.block_reader.specs.Said.{kindOf}
+use Rattle.filters.specs.Filter.{hash}
+use Rattle.filters.specs.FilterBlock.{filterFormed, mayMatch}
+use Rattle.table_block.specs.declared.footer.FooterRead.the-variants as FooterCase
+use Rattle.table_block.specs.declared.table_block.FilterRead.the-variants as FilterCase
+use Rattle.table_block.specs.Answers.{footerAnswer, bloomAnswer}
 use Rattle.table.specs.Checked.{Checked, pass, refuse, _>>=_, ask}
 use Rattle.table.specs.Table.{endsBefore, placed, Footer, footer, contents, sealed, blockOf, metaindexOf, indexOf, bloomHandle, filterOf, mayHold, opened, Edge, firstFollows, handleOf, dataBlockOf, dataBlocksOf, fullCheck}
-use Rattle.table.proofs.FooterLaws.{no-footer, a-footer}
+use Rattle.table_block.proofs.FooterLaws.{no-footer, a-footer}
 use Rattle.full_check.specs.declared.check.Verdict.the-variants as VerdictCase
 use Rattle.full_check.specs.Answers.{verdictOf}
 use Rattle.full_check.specs.Steps.{lessOf, sortedIn, sortedAt, ordered, filterBytes, lets, dataIn, dataAt, blocksAt, withFilter, afterFooter}

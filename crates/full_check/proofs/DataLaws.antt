@@ -11,10 +11,10 @@ use borrow.Author.Tests.{ne-eqb}
 use Rattle.codec.specs.Checksum.{trailerStands}
 use Rattle.codec.specs.Varint.{Handle}
 use Rattle.codec.proofs.BytesLaws.{part-between}
-use Rattle.block.specs.declared.block.Kind.the-variants as KindCase
-use Rattle.block.specs.Block.{Pair, Entry, lastKeyOf, pairsOf}
-use Rattle.block.specs.Formed.{all, wellFormed, isFormed}
-use Rattle.block.specs.Search.{kindOf}
+use Rattle.block_reader.specs.declared.block.Kind.the-variants as KindCase
+use Rattle.blocks.specs.Block.{Pair, Entry, lastKeyOf, pairsOf}
+use Rattle.blocks.specs.Formed.{all, wellFormed, isFormed}
+use Rattle.block_reader.specs.Said.{kindOf}
 use Rattle.table.specs.Checked.{Checked, pass, refuse, _>>=_, ask, orRefuse}
 use Rattle.table.specs.Table.{endsBefore, placed, contents, sealed, Edge, handleOf}
 use Rattle.full_check.specs.declared.check.Verdict.the-variants as VerdictCase

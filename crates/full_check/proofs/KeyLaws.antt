@@ -14,17 +14,17 @@ use Rattle.codec.specs.Varint.{Handle, oneHandle}
 use Rattle.codec.proofs.VarintCode.{no-one, a-one}
 use Rattle.codec.proofs.Prelude.{split}
 use Rattle.keys.specs.Order.{userOf, pointOf, byPoint, bytesBelow, below}
-use Rattle.block.specs.declared.block.EntryRead.the-variants as EntryCase
-use Rattle.block.specs.declared.block.Kind as KindEnum
-use Rattle.block.specs.declared.block.Kind.the-variants as KindCase
-use Rattle.block.specs.Block.{Pair, Entry, entry, lastKeyOf, pairsOf}
-use Rattle.block.specs.Formed.{Kind, all, rises}
-use Rattle.block.specs.Search.{kindOf, entryAnswer}
-use Rattle.block.specs.Steps.{readFrom}
-use Rattle.block.proofs.EntryLaws.{Taken}
-use Rattle.block.proofs.WalkLaws.{read-end, no-read, taken-first}
-use Rattle.filter.specs.Filter.{hash}
-use Rattle.filter.specs.FilterBlock.{mayMatch}
+use Rattle.block_reader.specs.declared.block.EntryRead.the-variants as EntryCase
+use Rattle.block_reader.specs.declared.block.Kind as KindEnum
+use Rattle.block_reader.specs.declared.block.Kind.the-variants as KindCase
+use Rattle.blocks.specs.Block.{Pair, Entry, entry, lastKeyOf, pairsOf}
+use Rattle.blocks.specs.Formed.{Kind, all, rises}
+use Rattle.block_reader.specs.Said.{kindOf, entryAnswer}
+use Rattle.block_reader.specs.Steps.{readFrom}
+use Rattle.block_reader.proofs.EntryLaws.{Taken}
+use Rattle.block_reader.proofs.WalkLaws.{read-end, no-read, taken-first}
+use Rattle.filters.specs.Filter.{hash}
+use Rattle.filters.specs.FilterBlock.{mayMatch}
 use Rattle.table.specs.Table.{Edge, follows, firstFollows, handleOf}
 use Rattle.full_check.specs.Steps.{lessOf, after, risesFrom, edgeOf, ordered, lets}
 

@@ -7,11 +7,11 @@ use mathlib.Core.Option.{Option, none, some}
 use lib.ListN.{take}
 use Rattle.codec.specs.Varint.{Handle}
 use Rattle.keys.specs.Order.{userOf, bytesBelow, below}
-use Rattle.block.specs.Block.{Pair, lastKeyOf, Entry, pairsOf}
-use Rattle.block.specs.Formed.{Kind, dataBlock, indexBlock, metaBlock, all, rises, wellFormed}
-use Rattle.block.specs.Steps.{rowsOf, readFrom}
-use Rattle.filter.specs.Filter.{hash}
-use Rattle.filter.specs.FilterBlock.{mayMatch}
+use Rattle.blocks.specs.Block.{Pair, lastKeyOf, Entry, pairsOf}
+use Rattle.blocks.specs.Formed.{Kind, dataBlock, indexBlock, metaBlock, all, rises, wellFormed}
+use Rattle.block_reader.specs.Steps.{rowsOf, readFrom}
+use Rattle.filters.specs.Filter.{hash}
+use Rattle.filters.specs.FilterBlock.{mayMatch}
 use Rattle.table.specs.Checked.{Checked, pass, refuse, _>>=_, ask, orRefuse}
 use Rattle.table.specs.Table.{placed, contents, sealed, metaindexOf, indexOf, bloomHandle, filterOf, Edge, firstFollows, handleOf, dataBlocksOf}
 use Rattle.full_check.specs.declared.check.DataRead.{DataRead}

@@ -6,22 +6,23 @@ ghost use Prim.Native.Nat.{_≤_};
 ghost use lib.Dec.{isEq};
 ghost use lib.ListN.{length, take};
 ghost use Rattle.keys.specs.Order.{userOf, pointOf, byPoint};
-ghost use Rattle.block.specs.Block.{Entry, pairsOf};
-ghost use Rattle.block.specs.Formed.{all, rises};
-ghost use Rattle.block.specs.Search.{kindOf, readable};
-ghost use Rattle.block.specs.Steps.{readFrom};
-ghost use Rattle.filter.specs.Filter.{hash};
-ghost use Rattle.filter.specs.FilterBlock.{mayMatch};
+ghost use Rattle.blocks.specs.Block.{Entry, pairsOf};
+ghost use Rattle.blocks.specs.Formed.{all, rises};
+ghost use Rattle.blocks.specs.Search.{readable};
+ghost use Rattle.block_reader.specs.Said.{kindOf};
+ghost use Rattle.block_reader.specs.Steps.{readFrom};
+ghost use Rattle.filters.specs.Filter.{hash};
+ghost use Rattle.filters.specs.FilterBlock.{mayMatch};
 ghost use Rattle.table.specs.Table.{follows, firstFollows, bloomHandle, handleOf, fullCheck};
 ghost use Rattle.full_check.specs.Answers.{verdictOf};
 ghost use Rattle.full_check.specs.Steps.{endOf, lessOf, after, Tested, edgeOf, ordered, lets, sortedIn, sortedAt, Judged, dataIn, dataAt, DataJudged, blocksAt, withFilter, afterFooter};
-use block::block::EntryRead;
-use block::block::Kind;
-use block::block::RowsRead;
+use block_reader::block::EntryRead;
+use block_reader::block::Kind;
+use block_reader::block::RowsRead;
 use codec::blockhandle::OneHandle;
 use keys::cmp::Ordering;
-use table::footer::FooterRead;
-use table::table_block::FilterRead;
+use table_block::footer::FooterRead;
+use table_block::table_block::FilterRead;
 
 // The full check's answer: that the table passes, or the refusal's number.
 pub enum Verdict {
@@ -51,7 +52,7 @@ struct Place {
 fn entries_end(s: &[u8]) -> usize
     ensures { λ r. ⌜ r ≡ endOf (now (s .entry)) ⌝ }
 {
-    match block::block::layout(s) {
+    match block_reader::block::layout(s) {
         RowsRead::Bad => 0,
         RowsRead::Rows { end, count: _ } => end,
     }
@@ -91,7 +92,7 @@ fn keys_rise(d: &[u8], kind: Kind, last: &mut [u8]) -> Rising
     let mut len: usize = 0;
     let mut at: usize = 0;
     while at < d.len() {
-        match block::block::read_entry(&d[at..], &mut key, len) {
+        match block_reader::block::read_entry(&d[at..], &mut key, len) {
             EntryRead::Bad => {
                 return Rising::No;
             }
@@ -118,7 +119,7 @@ fn keys_rise(d: &[u8], kind: Kind, last: &mut [u8]) -> Rising
 fn sorted_in(s: &[u8], kind: Kind) -> Verdict
     ensures { λ r. ⌜ Judged (sortedIn (kindOf kind) (now (s .entry))) r ⌝ }
 {
-    if block::block::is_formed(s, kind) {} else {
+    if block_reader::block::is_formed(s, kind) {} else {
         return Verdict::Refused(10);
     }
     let end = entries_end(s);
@@ -167,7 +168,7 @@ fn block_follows(d: &[u8], first: bool, before: &[u8], last: &[u8]) -> bool
     ensures { λ r. ⌜ ((es : List Entry) → readFrom (now (d .entry)) 0 [] ≡ some es → r ≡ firstFollows (edgeOf first (now (before .entry)) (now (last .entry))) (pairsOf es)) ⌝ }
 {
     let mut key = [0u8; 1032];
-    match block::block::read_entry(d, &mut key, 0) {
+    match block_reader::block::read_entry(d, &mut key, 0) {
         EntryRead::Bad => false,
         EntryRead::Entry {
             shared: _,
@@ -209,8 +210,8 @@ fn in_order(
 fn may_hold(filter: &[u8], offset: usize, key: &[u8]) -> bool
     ensures { λ r. ⌜ r ≡ mayMatch (now (filter .entry)) offset (hash (userOf (now (key .entry)))) ⌝ }
 {
-    let h = filter::filter::bloom_hash(keys::key_types::user_key(key));
-    filter::filter_block::may_match(filter, offset, h)
+    let h = filter_block::filter::bloom_hash(keys::key_types::user_key(key));
+    filter_block::filter_block::may_match(filter, offset, h)
 }
 
 // Whether it lets that block hold the keys of the entries that fill d.
@@ -221,7 +222,7 @@ fn all_held(d: &[u8], filter: &[u8], offset: usize) -> bool
     let mut len: usize = 0;
     let mut at: usize = 0;
     while at < d.len() {
-        match block::block::read_entry(&d[at..], &mut key, len) {
+        match block_reader::block::read_entry(&d[at..], &mut key, len) {
             EntryRead::Bad => {
                 return false;
             }
@@ -257,7 +258,7 @@ fn data_in(
     requires { ⌜ (length (now last) ≡ 1032) × («last_len» ≤ 1032) ⌝ }
     ensures { λ r. ⌜ DataJudged (dataIn (now (filter .entry)) offset (edgeOf first (now (before .entry)) (take «last_len» (now (last .entry)))) (now (bound .entry)) (now (s .entry))) r (now (last .exit)) ⌝ }
 {
-    if block::block::is_formed(s, Kind::Data) {} else {
+    if block_reader::block::is_formed(s, Kind::Data) {} else {
         return DataRead::Refused(10);
     }
     let end = entries_end(s);
@@ -289,7 +290,7 @@ fn data_at(
     requires { ⌜ (length (now last) ≡ 1032) × («last_len» ≤ 1032) ⌝ }
     ensures { λ r. ⌜ DataJudged (dataAt (now (table .entry)) (now (filter .entry)) (edgeOf first (now (before .entry)) (take «last_len» (now (last .entry)))) (now (bound .entry)) (record { offset = offset; size = size })) r (now (last .exit)) ⌝ }
 {
-    if table::footer::placed(table.len(), offset, size) {} else {
+    if table_block::footer::placed(table.len(), offset, size) {} else {
         return DataRead::Refused(8);
     }
     if codec::trailer::trailer_stands(table, offset, size) {} else {
@@ -329,7 +330,7 @@ fn blocks_in(table: &[u8], filter: &[u8], d: &[u8]) -> Verdict
     let mut last_len: usize = 0;
     let mut at: usize = 0;
     while at < d.len() {
-        match block::block::read_entry(&d[at..], &mut key, len) {
+        match block_reader::block::read_entry(&d[at..], &mut key, len) {
             EntryRead::Bad => {
                 return Verdict::Refused(10);
             }
@@ -381,7 +382,7 @@ fn blocks(table: &[u8], filter: &[u8], index: &[u8]) -> Verdict
 fn filtered(table: &[u8], index: &[u8], offset: usize, size: usize) -> Verdict
     ensures { λ r. ⌜ ((es : List Entry) → readable (now (index .entry)) ≡ some es → r ≡ verdictOf (withFilter (now (table .entry)) (some (record { offset = offset; size = size })) (pairsOf es))) ⌝ }
 {
-    if table::footer::placed(table.len(), offset, size) {} else {
+    if table_block::footer::placed(table.len(), offset, size) {} else {
         return Verdict::Refused(8);
     }
     if codec::trailer::trailer_stands(table, offset, size) {} else {
@@ -389,7 +390,7 @@ fn filtered(table: &[u8], index: &[u8], offset: usize, size: usize) -> Verdict
     }
     let end = offset + size;
     let filter = &table[offset..end];
-    if filter::filter_block::is_formed(filter) {} else {
+    if filter_block::filter_block::is_formed(filter) {} else {
         return Verdict::Refused(12);
     }
     blocks(table, filter, index)
@@ -399,7 +400,7 @@ fn filtered(table: &[u8], index: &[u8], offset: usize, size: usize) -> Verdict
 fn rest(table: &[u8], metaindex: &[u8], index: &[u8]) -> Verdict
     ensures { λ r. ⌜ ((ms es : List Entry) → readable (now (metaindex .entry)) ≡ some ms → readable (now (index .entry)) ≡ some es → r ≡ verdictOf (withFilter (now (table .entry)) (bloomHandle (pairsOf ms)) (pairsOf es))) ⌝ }
 {
-    match table::table_block::bloom_handle(metaindex) {
+    match table_block::table_block::bloom_handle(metaindex) {
         FilterRead::None => blocks(table, b"", index),
         FilterRead::Handle { offset, size } => filtered(table, index, offset, size),
     }
@@ -436,7 +437,7 @@ fn after_footer(
 pub fn check(table: &[u8]) -> Verdict
     ensures { λ r. ⌜ r ≡ verdictOf (fullCheck (now (table .entry))) ⌝ }
 {
-    match table::footer::decode(table) {
+    match table_block::footer::decode(table) {
         FooterRead::Refused(n) => Verdict::Refused(n),
         FooterRead::Footer {
             meta_offset,

@@ -12,8 +12,8 @@ use Rattle.codec.specs.Bytes.{part}
 use Rattle.codec.specs.Put.{put}
 use Rattle.codec.proofs.Lists.{no-length}
 use Rattle.keys.specs.Order.{Point}
-use Rattle.table.specs.declared.footer.FooterRead.the-variants as FooterCase
-use Rattle.table.specs.Answers.{footerAnswer}
+use Rattle.table_block.specs.declared.footer.FooterRead.the-variants as FooterCase
+use Rattle.table_block.specs.Answers.{footerAnswer}
 use Rattle.table.specs.Checked.{Checked, pass, refuse, _>>=_, ask, orRefuse}
 use Rattle.table.specs.Table.{Found, Footer, footer, footerHandles, placed, opened, fullCheck}
 use Rattle.table.specs.Promise.{Passed}
@@ -21,7 +21,7 @@ use Rattle.table.specs.Reads
 use Rattle.table.specs.Reads.{Answer, refused, pointFits, seekSays, lookupSays, stepSays, listed, bufferAfter}
 use Rattle.table.specs.Runs.{overlay}
 use Rattle.table.proofs.OverlayLaws.{overlay-none, overlay-put}
-use Rattle.table.proofs.FooterLaws.{no-footer, a-footer}
+use Rattle.table_block.proofs.FooterLaws.{no-footer, a-footer}
 use Rattle.table.proofs.CheckedLaws.{refuse-pass}
 use Rattle.reader.specs.declared.table_reader.Entry.{Entry}
 use Rattle.reader.specs.declared.table_reader.Found as FoundEnum

@@ -11,8 +11,8 @@ use Rattle.codec.proofs.Lists.{All, all-imp, orElse, first-yes, first-no, first
 use Rattle.codec.proofs.Prelude.{test, true-is, false-is, is-true}
 use Rattle.keys.specs.Order.{Point, pointOf, byPoint, isLess}
 use Rattle.keys.proofs.OrderLaws.{_≺_, _≼_}
-use Rattle.block.specs.Block.{Entry}
-use Rattle.block.specs.Search.{reaches, seekIn}
+use Rattle.blocks.specs.Block.{Entry}
+use Rattle.blocks.specs.Search.{reaches, seekIn}
 use Rattle.table.specs.Table.{handleOf, entriesAt, foundIn, foundsOf, readBlocks}
 use Rattle.table.specs.Promise.{Passed, notBelow}
 use Rattle.table.specs.Reads.{Answer, refused, foundOr, seekSays, listed}

@@ -9,11 +9,11 @@ use lib.Dec.{eqb}
 use borrow.Author.Tests.{eqb-true, eqb-false, eq-eqb, ne-eqb}
 use Rattle.codec.proofs.Lists.{All, Pairs, all-mem, all-imp}
 use Rattle.codec.proofs.Prelude.{test}
-use Rattle.block.specs.declared.block.Which.the-variants as WhichCase
-use Rattle.block.specs.Block.{Entry}
-use Rattle.block.specs.Search.{pick, placeIn, atIn, nextIn}
-use Rattle.block.proofs.ReadLaws.{StartsBefore}
-use Rattle.block.proofs.SeekLaws.{place-past}
+use Rattle.block_reader.specs.declared.block.Which.the-variants as WhichCase
+use Rattle.blocks.specs.Block.{Entry}
+use Rattle.block_reader.specs.Said.{pick, placeIn, atIn, nextIn}
+use Rattle.blocks.proofs.ReadLaws.{StartsBefore}
+use Rattle.block_reader.proofs.SeekLaws.{place-past}
 use Rattle.table.specs.Table.{handleOf, entriesAt, foundIn, foundsOf, readBlocks}
 use Rattle.table.specs.Table
 use Rattle.table.specs.Promise.{Passed, isAt, after}

@@ -18,13 +18,14 @@ use Rattle.codec.proofs.MaybeLaws.{getting, giving}
 use Rattle.codec.proofs.Prelude.{test, and-i, true-is, false-is}
 use Rattle.codec.proofs.PutLaws.{put-start}
 use Rattle.keys.specs.Order.{Point}
-use Rattle.block.specs.declared.block.Found.{Found}
-use Rattle.block.specs.declared.block.Found.the-variants as FoundCase
-use Rattle.block.specs.declared.block.Which.{Which}
-use Rattle.block.specs.declared.block.Which.the-variants as WhichCase
-use Rattle.block.specs.Block.{Pair, Entry}
-use Rattle.block.specs.Search.{readable, reaches, seekIn, firstIn, pick, placeIn, foundAnswer, keyLeft, bufferLeft, inOrder, anyOrder, Said}
-use Rattle.block.proofs.ReadLaws.{StartsBefore, block-starts, ValueIn, block-values}
+use Rattle.block_reader.specs.declared.block.Found.{Found}
+use Rattle.block_reader.specs.declared.block.Found.the-variants as FoundCase
+use Rattle.block_reader.specs.declared.block.Which.{Which}
+use Rattle.block_reader.specs.declared.block.Which.the-variants as WhichCase
+use Rattle.blocks.specs.Block.{Pair, Entry}
+use Rattle.blocks.specs.Search.{readable, reaches, seekIn, firstIn, inOrder, anyOrder}
+use Rattle.block_reader.specs.Said.{pick, placeIn, foundAnswer, keyLeft, bufferLeft, Said}
+use Rattle.blocks.proofs.ReadLaws.{StartsBefore, block-starts, ValueIn, block-values}
 use Rattle.table.specs.Table.{endsBefore, contents}
 use Rattle.table.specs.Reads.{Answer, refused, nothing, found, listed}
 use Rattle.table.proofs.StandLaws.{all-entries}
@@ -105,7 +106,7 @@ module _ (t : List ℕ) (h : Handle) (index : ℕ) (placed : endsBefore (length 
       room : h .offset + h .size + 53 ≤ length t
       room = placed-within (length t) (h .offset) (h .size) placed
 
-      go : (f : Found) → Rattle.block.specs.Search.Inside (contents t h) k f k′ → Tells soughtOf t (λ a. a ≡ answerOf t index (h .offset) f k′) (hitOf index (h .offset) f) k′
+      go : (f : Found) → Rattle.block_reader.specs.Said.Inside (contents t h) k f k′ → Tells soughtOf t (λ a. a ≡ answerOf t index (h .offset) f k′) (hitOf index (h .offset) f) k′
       go (FoundCase.Entry start n at v) i =
           let most : length (contents t h) ≤ h .size = part-most t (h .offset) (h .size) in
           let here : h .offset + at + v ≤ length t = omega (arith, i .0, room) in

@@ -8,13 +8,14 @@ use lib.Dec.{T}
 use borrow.Author.Tests.{eq-eqb}
 use Rattle.codec.specs.Varint.{Handle}
 use Rattle.codec.proofs.Lists.{Pairs, all-mem}
-use Rattle.block.specs.declared.block.Which.{Which}
-use Rattle.block.specs.declared.block.Which.the-variants as WhichCase
-use Rattle.block.specs.Block.{Entry, pairsOf}
-use Rattle.block.specs.Formed.{dataBlock, enough}
-use Rattle.block.specs.Search.{pick, placeIn, nextIn, firstIn}
-use Rattle.block.proofs.ReadLaws.{StartsBefore}
-use Rattle.block.proofs.SeekLaws.{place-past}
+use Rattle.block_reader.specs.declared.block.Which.{Which}
+use Rattle.block_reader.specs.declared.block.Which.the-variants as WhichCase
+use Rattle.blocks.specs.Block.{Entry, pairsOf}
+use Rattle.blocks.specs.Formed.{dataBlock, enough}
+use Rattle.blocks.specs.Search.{firstIn}
+use Rattle.block_reader.specs.Said.{pick, placeIn, nextIn}
+use Rattle.blocks.proofs.ReadLaws.{StartsBefore}
+use Rattle.block_reader.proofs.SeekLaws.{place-past}
 use Rattle.table.specs.Table.{contents, handleOf, entriesAt, foundIn, foundsOf, readBlocks}
 use Rattle.table.specs.Promise.{Passed}
 use Rattle.table.specs.Reads.{Answer, nothing, foundOr, listed}

@@ -15,10 +15,10 @@ use Rattle.codec.proofs.Lists.{All, Below, below-all, below-take, below-drop, a
 use Rattle.codec.proofs.Prelude.{split, is-true, and-l}
 use Rattle.keys.specs.Order.{andThen, isLess, byBytes, userOf, tagOf, seqOf, pointOf, byPoint}
 use Rattle.keys.proofs.OrderLaws.{compare-is, compare-gt}
-use Rattle.block.specs.Block.{Entry, Block, block}
+use Rattle.blocks.specs.Block.{Entry, Block, block}
 use Rattle.codec.specs.Limits.{within}
-use Rattle.block.specs.Formed.{dataBlock, entryFits}
-use Rattle.block.proofs.ReadLaws.{entry-read, Reads, block-read}
+use Rattle.blocks.specs.Formed.{dataBlock, entryFits}
+use Rattle.blocks.proofs.ReadLaws.{entry-read, Reads, block-read}
 use Rattle.table.specs.Table.{Found, contents, handleOf, entriesAt, foundIn, foundsOf, readBlocks}
 use Rattle.table.specs.Promise.{notBelow}
 use Rattle.table.proofs.StandLaws.{all-entries, open-reading}

@@ -12,10 +12,10 @@ use Rattle.codec.specs.Varint.{Handle, oneHandle}
 use Rattle.codec.proofs.VarintCode.{no-one, a-one}
 use Rattle.codec.proofs.Lists.{all-mem}
 use Rattle.codec.proofs.Prelude.{test}
-use Rattle.block.specs.declared.block.Found.{Found}
-use Rattle.block.specs.declared.block.Found.the-variants as FoundCase
-use Rattle.block.specs.Block.{Entry}
-use Rattle.block.specs.Search.{foundAnswer, Said}
+use Rattle.block_reader.specs.declared.block.Found.{Found}
+use Rattle.block_reader.specs.declared.block.Found.the-variants as FoundCase
+use Rattle.blocks.specs.Block.{Entry}
+use Rattle.block_reader.specs.Said.{foundAnswer, Said}
 use Rattle.table.specs.Table.{endsBefore, contents, handleOf, entriesAt}
 use Rattle.table.specs.Promise.{Passed}
 use Rattle.table.specs.Reads.{Answer, refused, listed}

@@ -11,16 +11,16 @@ use Rattle.codec.specs.Maybe.{first}
 use Rattle.codec.specs.Varint.{Handle}
 use Rattle.codec.proofs.Prelude.{test, is-true}
 use Rattle.keys.specs.Order.{Point, userOf, tagOf, kindOf}
-use Rattle.block.specs.declared.block.Found.{Found}
-use Rattle.block.specs.Block.{Entry, pairsOf}
-use Rattle.block.specs.Formed.{metaBlock}
-use Rattle.block.specs.Search.{readable, reaches, seekIn}
-use Rattle.block.proofs.FormedLaws.{formed-readable}
-use Rattle.filter.specs.Filter.{hash}
-use Rattle.filter.specs.FilterBlock.{mayMatch}
-use Rattle.table.specs.declared.table_block.FilterRead.{FilterRead}
-use Rattle.table.specs.declared.table_block.FilterRead.the-variants as FilterCase
-use Rattle.table.specs.Answers.{bloomAnswer, BloomRead}
+use Rattle.block_reader.specs.declared.block.Found.{Found}
+use Rattle.blocks.specs.Block.{Entry, pairsOf}
+use Rattle.blocks.specs.Formed.{metaBlock}
+use Rattle.blocks.specs.Search.{readable, reaches, seekIn}
+use Rattle.blocks.proofs.FormedLaws.{formed-readable}
+use Rattle.filters.specs.Filter.{hash}
+use Rattle.filters.specs.FilterBlock.{mayMatch}
+use Rattle.table_block.specs.declared.table_block.FilterRead.{FilterRead}
+use Rattle.table_block.specs.declared.table_block.FilterRead.the-variants as FilterCase
+use Rattle.table_block.specs.Answers.{bloomAnswer, BloomRead}
 use Rattle.table.specs.Checked.{pass}
 use Rattle.table.specs.Table
 use Rattle.table.specs.Table.{Footer, endsBefore, placed, sealed, contents, blockOf, metaindexOf, bloomHandle, filterOf, mayHold, Opened, opened, handleOf, entriesAt, foundIn, foundsOf}

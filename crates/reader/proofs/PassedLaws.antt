@@ -11,11 +11,11 @@ use borrow.Author.Tests.{leb-true}
 use Rattle.codec.specs.Varint.{Handle, oneHandle}
 use Rattle.codec.proofs.Prelude.{is-true, and-r}
 use Rattle.codec.proofs.Lists.{All, all-imp}
-use Rattle.block.specs.Block.{Pair, Entry, pairsOf}
+use Rattle.blocks.specs.Block.{Pair, Entry, pairsOf}
 use Rattle.codec.specs.Limits.{within}
-use Rattle.block.specs.Formed.{dataBlock, indexBlock, isHandle, entryFits, all}
-use Rattle.block.specs.Search.{readable, inOrder}
-use Rattle.block.proofs.FormedLaws.{asPair, formed-read, formed-readable}
+use Rattle.blocks.specs.Formed.{dataBlock, indexBlock, isHandle, entryFits, all}
+use Rattle.blocks.specs.Search.{readable, inOrder}
+use Rattle.blocks.proofs.FormedLaws.{asPair, formed-read, formed-readable}
 use Rattle.table.specs.Checked.{pass}
 use Rattle.table.specs.Table.{Footer, footer, footerHandles, endsBefore, placed, contents, sealed, blockOf, indexOf, handleOf, entriesAt, dataBlockOf, dataBlocksOf, Edge, Opened, opened, fullCheck}
 use Rattle.table.specs.Promise.{Passed}

@@ -10,10 +10,10 @@ use lib.ListN.{length, take}
 use Rattle.codec.specs.Bytes.{part, sameBytes}
 use Rattle.codec.specs.Varint.{Handle, oneHandle}
 use Rattle.keys.specs.Order.{userOf, kindOf}
-use Rattle.block.specs.Block.{Entry}
-use Rattle.block.specs.Search.{readable, inOrder}
-use Rattle.block.specs.declared.block.Found as BlockFound
-use Rattle.block.specs.declared.block.Found.the-variants as FoundCase
+use Rattle.blocks.specs.Block.{Entry}
+use Rattle.blocks.specs.Search.{readable, inOrder}
+use Rattle.block_reader.specs.declared.block.Found as BlockFound
+use Rattle.block_reader.specs.declared.block.Found.the-variants as FoundCase
 use Rattle.table.specs.Checked.{pass}
 use Rattle.table.specs.Table.{Footer, footer, endsBefore, handleOf, mayHold, Opened, opened, entriesAt, readBlocks}
 use Rattle.table.specs.Promise.{Passed}

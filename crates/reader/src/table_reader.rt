@@ -8,19 +8,20 @@ ghost use lib.Dec.{T};
 ghost use lib.ListN.{length};
 ghost use Rattle.codec.specs.Bytes.{part};
 ghost use Rattle.codec.specs.Varint.{oneHandle};
-ghost use Rattle.block.specs.Block.{Entry};
-ghost use Rattle.block.specs.Search.{seekIn, placeIn};
+ghost use Rattle.blocks.specs.Block.{Entry};
+ghost use Rattle.blocks.specs.Search.{seekIn};
+ghost use Rattle.block_reader.specs.Said.{placeIn};
 ghost use Rattle.table.specs.Table.{endsBefore, entriesAt, readBlocks};
 ghost use Rattle.table.specs.Promise.{Passed};
 ghost use Rattle.table.specs.Reads.{Answer, pointFits, listed, bufferAfter, foundOr, seekSays, lookupSays, stepSays};
 ghost use Rattle.reader.specs.Answers.{soughtOf, lookedOf, Seeks, Looks, Steps};
 ghost use Rattle.reader.specs.Parts.{Indexed, Inside, locatedOf, byHandle, Adds, hitOf, Holds, Tells, Sees, Says, IsLater, OrLater, Is, Short, Named, HeldIs, ofWord, Kinded, IsKinded};
-use block::block::Which;
+use block_reader::block::Which;
 use codec::blockhandle::OneHandle;
 use keys::cmp::Ordering;
-use table::footer;
-use table::footer::FooterRead;
-use table::table_block::FilterRead;
+use table_block::footer;
+use table_block::footer::FooterRead;
+use table_block::table_block::FilterRead;
 
 // Where an entry stands: where its index entry starts in the index block, and where it starts in its data block.
 pub struct Place {
@@ -91,15 +92,15 @@ fn by_handle(len: usize, start: usize, value: &[u8]) -> Located
 }
 
 // The same for what was found in the index block.
-fn locate(len: usize, index: &[u8], found: block::block::Found) -> Located
+fn locate(len: usize, index: &[u8], found: block_reader::block::Found) -> Located
     requires { ⌜ Inside (length (now index)) found ⌝ }
     ensures { λ r. ⌜ r ≡ locatedOf len (now (index .entry)) found ⌝ }
 {
     match found {
-        block::block::Found::Bad => Located::Refused(10),
-        block::block::Found::None => Located::None,
-        block::block::Found::NoPlace => Located::NoPlace,
-        block::block::Found::Entry {
+        block_reader::block::Found::Bad => Located::Refused(10),
+        block_reader::block::Found::None => Located::None,
+        block_reader::block::Found::NoPlace => Located::NoPlace,
+        block_reader::block::Found::Entry {
             start,
             key_len: _,
             value_at,
@@ -112,15 +113,15 @@ fn locate(len: usize, index: &[u8], found: block::block::Found) -> Located
 }
 
 // What was found in the data block at an offset, whose index entry starts at a place, as an entry of the table.
-fn hit(index: usize, offset: usize, found: block::block::Found) -> Sought
+fn hit(index: usize, offset: usize, found: block_reader::block::Found) -> Sought
     requires { ⌜ Adds offset found ⌝ }
     ensures { λ r. ⌜ r ≡ hitOf index offset found ⌝ }
 {
     match found {
-        block::block::Found::Bad => Sought::Refused(10),
-        block::block::Found::None => Sought::None,
-        block::block::Found::NoPlace => Sought::Refused(14),
-        block::block::Found::Entry {
+        block_reader::block::Found::Bad => Sought::Refused(10),
+        block_reader::block::Found::None => Sought::None,
+        block_reader::block::Found::NoPlace => Sought::Refused(14),
+        block_reader::block::Found::Entry {
             start,
             key_len,
             value_at,
@@ -154,7 +155,7 @@ fn place_index(
     locate(
         table.len(),
         index,
-        block::block::by_place(index, at, which, buf),
+        block_reader::block::by_place(index, at, which, buf),
     )
 }
 
@@ -179,7 +180,11 @@ fn first_after(
             size,
         } => {
             let to = offset + size;
-            hit(next, offset, block::block::first(&table[offset..to], buf))
+            hit(
+                next,
+                offset,
+                block_reader::block::first(&table[offset..to], buf),
+            )
         }
     }
 }
@@ -220,7 +225,7 @@ fn seek_index(
     locate(
         table.len(),
         index,
-        block::block::seek(index, word, edition, buf),
+        block_reader::block::seek(index, word, edition, buf),
     )
 }
 
@@ -241,7 +246,7 @@ fn seek_block(
     hit(
         index,
         offset,
-        block::block::seek(&table[offset..to], word, edition, buf),
+        block_reader::block::seek(&table[offset..to], word, edition, buf),
     )
 }
 
@@ -290,7 +295,7 @@ fn follow(table: &[u8], index_at: usize, index_size: usize, place: Place, buf: &
             let here = hit(
                 start,
                 offset,
-                block::block::by_place(&table[offset..to], place.entry, Which::After, buf),
+                block_reader::block::by_place(&table[offset..to], place.entry, Which::After, buf),
             );
             or_later(here, table, index_at, index_size, start, buf)
         }
@@ -377,15 +382,15 @@ fn may_hold(table: &[u8], meta_at: usize, meta_size: usize, offset: usize, word:
     ensures { λ r. ⌜ HeldIs (now (table .entry)) offset (now (word .entry)) r ⌝ }
 {
     let meta_end = meta_at + meta_size;
-    match table::table_block::bloom_handle(&table[meta_at..meta_end]) {
+    match table_block::table_block::bloom_handle(&table[meta_at..meta_end]) {
         FilterRead::None => Held::May,
         FilterRead::Handle { offset: from, size } => {
             if footer::placed(table.len(), from, size) {} else {
                 return Held::Refused(8);
             }
             let to = from + size;
-            let hash = filter::filter::bloom_hash(word);
-            if filter::filter_block::may_match(&table[from..to], offset, hash) {
+            let hash = filter_block::filter::bloom_hash(word);
+            if filter_block::filter_block::may_match(&table[from..to], offset, hash) {
                 Held::May
             } else {
                 Held::Not

@@ -2,12 +2,12 @@
 use crate::fields;
 use crate::fields::front;
 use crate::show;
-use block::block as rows;
-use block::block::EntryRead;
-use block::block::Found;
-use block::block::Kind;
-use block::block::Which;
-use block::block_builder::BlockBuilder;
+use block_builder::block_builder::BlockBuilder;
+use block_reader::block as rows;
+use block_reader::block::EntryRead;
+use block_reader::block::Found;
+use block_reader::block::Kind;
+use block_reader::block::Which;
 use codec::put::Written;
 
 struct Grown {

@@ -2,10 +2,10 @@
 use crate::fields;
 use crate::fields::front;
 use crate::show;
-use filter::filter as bloom;
-use filter::filter::Filter;
-use filter::filter_block;
-use filter::filter_block::Made;
+use filter_block::filter as bloom;
+use filter_block::filter::Filter;
+use filter_block::filter_block as groups;
+use filter_block::filter_block::Made;
 
 pub fn knows(op: u8) -> bool {
     op == b'h' || op == b'b' || op == b'f' || op == b'm' || op == b'w' || op == b'q' || op == b'M'
@@ -101,7 +101,7 @@ fn formed(s: &[u8], at: usize) {
     let mut a = [0u8; 2600];
     let fa = fields::field(s, at, &mut a);
     show::yes(
-        filter_block::is_formed(front(&a, fa.len)),
+        groups::is_formed(front(&a, fa.len)),
         b" not",
         b" formed",
     );
@@ -113,7 +113,7 @@ fn asked(s: &[u8], at: usize) {
     let offset = fields::number(s, fa.next);
     let h = one_hash(s, offset.next);
     show::yes(
-        filter_block::may_match(front(&a, fa.len), offset.value, h.hash),
+        groups::may_match(front(&a, fa.len), offset.value, h.hash),
         b" no",
         b" may",
     );
@@ -121,7 +121,7 @@ fn asked(s: &[u8], at: usize) {
 
 fn finished(filters: &[u8; 128], bytes: usize, offsets: &[u32; 8], made: usize) {
     let mut run = [0xee_u8; 256];
-    let w = filter_block::finish(&mut run, 3, front(filters, bytes), some_of(offsets, made));
+    let w = groups::finish(&mut run, 3, front(filters, bytes), some_of(offsets, made));
     show::written(&run, 3, w);
 }
 
@@ -137,7 +137,7 @@ fn make(s: &[u8], at: usize, end: usize) {
     let mut filters = [0u8; 128];
     let mut offsets = [0u32; 8];
     if room <= 128 && numbers <= 8 {
-        match filter_block::make_filters(
+        match groups::make_filters(
             choice(bits.value),
             some_of(&all, h.count),
             upto.value,

@@ -15,11 +15,11 @@ use Rattle.keys.specs.Order.{byBytes, bytesBelow, userOf, internal, pointOf, by
 use Rattle.keys.proofs.OrderLaws.{Less, point-same, below-less, less-below, upTo-notBelow, below-le, below-trans, below-itself}
 use Rattle.keys.proofs.KeyLaws.{internal-length}
 use Rattle.keys.proofs.SeparatorLaws.{Separates, separates, separator-length}
-use Rattle.block.specs.Block.{Pair, lastKeyOf}
+use Rattle.blocks.specs.Block.{Pair, lastKeyOf}
 use Rattle.codec.specs.Limits.{within}
-use Rattle.block.specs.Formed.{dataBlock, entryFits, all, enough, rises}
-use Rattle.block.proofs.FormedLaws.{all-more, rises-more}
-use Rattle.block.proofs.BuildLaws.{none-long}
+use Rattle.blocks.specs.Formed.{dataBlock, entryFits, all, enough, rises}
+use Rattle.blocks.proofs.FormedLaws.{all-more, rises-more}
+use Rattle.blocks.proofs.BuildLaws.{none-long}
 use Rattle.table.specs.Checked.{pass, _>>=_}
 use Rattle.table.specs.Options.{Options, filteringFits, Addition, additionFits, optionsFit, tableLimit}
 use Rattle.table.specs.Table

@@ -7,10 +7,10 @@ use Rattle.codec.specs.Bytes.{fours, bytesOf, common}
 use Rattle.codec.specs.Varint.{varintBytesF, varintBytes, handleBytes}
 use Rattle.codec.specs.Checksum.{trailer, crcBit, crcBits, crcByte, crcOver, crcExtend, crcMask}
 use Rattle.keys.specs.Order.{byBytes, bytesBelow, userOf, internal, raisedStart, raisedLast, shortestSep, userSep, lastTag, separator, shortSucc}
-use Rattle.block.specs.Block.{headBytes, entryBytes, sharing, since, packed, restartsOf, orZero, tailBytes, blockBytes, lastKeyOf}
-use Rattle.block.specs.Formed.{bloomName}
-use Rattle.filter.specs.Filter.{hashFrom, hash, probes, places, placesOf, bit, raise, raiseAll, raiseKeys, filterSize, filter, hashStep}
-use Rattle.filter.specs.FilterBlock.{Filtering, unfiltered, bitsPerKey, noFilters, wait, makeFilter, makeFilters, filtersUpTo, lastFilter, filterFor, madeBytes, starts, filterBlockOf, filterBlockBytes}
+use Rattle.blocks.specs.Block.{headBytes, entryBytes, sharing, since, packed, restartsOf, orZero, tailBytes, blockBytes, lastKeyOf}
+use Rattle.blocks.specs.Formed.{bloomName}
+use Rattle.filters.specs.Filter.{hashFrom, hash, probes, places, placesOf, bit, raise, raiseAll, raiseKeys, filterSize, filter, hashStep}
+use Rattle.filters.specs.FilterBlock.{Filtering, unfiltered, bitsPerKey, noFilters, wait, makeFilter, makeFilters, filtersUpTo, lastFilter, filterFor, madeBytes, starts, filterBlockOf, filterBlockBytes}
 use Rattle.table.specs.Options.{Options, indexInterval, Addition}
 use Rattle.table.specs.Table.{magic}
 use Rattle.table.specs.Build.{keyOf, pairOf, framed, chunkBytes, Chunk, written, endOf, indexPairs, filtersOf, filterBytes, metaName, metaPair, metaBytes, indexBytes, untilMeta, untilIndex, untilFooter, metaHandle, indexHandle, footerBytes, table, Building, begin, lastKey, close, closeBefore, add}

@@ -11,13 +11,13 @@ use Rattle.codec.specs.Varint.{Handle, handleBytes}
 use Rattle.codec.proofs.BytesLaws.{same-same}
 use Rattle.codec.proofs.VarintLaws.{Fits, one-handle}
 use Rattle.keys.specs.Order.{userOf, bytesBelow, below}
-use Rattle.block.specs.Block.{Pair, Entry, pairsOf, blockBytes, lastKeyOf}
+use Rattle.blocks.specs.Block.{Pair, Entry, pairsOf, blockBytes, lastKeyOf}
 use Rattle.codec.specs.Limits.{within}
-use Rattle.block.specs.Formed.{Kind, dataBlock, indexBlock, metaBlock, isHandle, bloomName, entryFits, all, enough, rises}
-use Rattle.block.proofs.BuildLaws.{planned, planned-pairs, block-bytes}
-use Rattle.block.proofs.FormedLaws.{formed-some}
-use Rattle.filter.specs.FilterBlock.{Filtering, unfiltered, bitsPerKey, filterFormed, noFilters, lastFilter, madeBytes, filterBlockBytes}
-use Rattle.filter.proofs.FilterBlockLaws.{formed, made-long}
+use Rattle.blocks.specs.Formed.{Kind, dataBlock, indexBlock, metaBlock, isHandle, bloomName, entryFits, all, enough, rises}
+use Rattle.blocks.proofs.BuildLaws.{planned, planned-pairs, block-bytes}
+use Rattle.blocks.proofs.FormedLaws.{formed-some}
+use Rattle.filters.specs.FilterBlock.{Filtering, unfiltered, bitsPerKey, filterFormed, noFilters, lastFilter, madeBytes, filterBlockBytes}
+use Rattle.filters.proofs.FilterBlockLaws.{formed, made-long}
 use Rattle.table.specs.Checked.{pass, _>>=_, ask, orRefuse}
 use Rattle.table.specs.Options.{Options, indexInterval, tableLimit}
 use Rattle.table.specs.Table

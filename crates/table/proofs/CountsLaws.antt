@@ -9,12 +9,12 @@ use lib.ListN.{length, length-append}
 use Rattle.codec.specs.Varint.{handleBytes}
 use Rattle.codec.proofs.Prelude.{test}
 use Rattle.keys.specs.Order.{separator}
-use Rattle.block.specs.Count.{countOf, noEntries, countEntry, countSize}
-use Rattle.block.proofs.BuildLaws.{one-long}
-use Rattle.block.proofs.CountLaws.{count-none, count-entry, count-size, count-zero, entry-long}
-use Rattle.filter.specs.FilterBlock.{Filters, noFilters, wait, lastFilter}
-use Rattle.filter.specs.FilterCount.{filterCountOf, countWaiting, countUpTo, countLast, filterBlockSize}
-use Rattle.filter.proofs.FilterCountLaws.{wait-append, count-no-filters, count-wait, count-upTo, count-last, count-block}
+use Rattle.blocks.specs.Count.{countOf, noEntries, countEntry, countSize}
+use Rattle.blocks.proofs.BuildLaws.{one-long}
+use Rattle.blocks.proofs.CountLaws.{count-none, count-entry, count-size, count-zero, entry-long}
+use Rattle.filters.specs.FilterBlock.{Filters, noFilters, wait, lastFilter}
+use Rattle.filters.specs.FilterCount.{filterCountOf, countWaiting, countUpTo, countLast, filterBlockSize}
+use Rattle.filters.proofs.FilterCountLaws.{wait-append, count-no-filters, count-wait, count-upTo, count-last, count-block}
 use Rattle.table.specs.Options.{Options, indexInterval, Addition}
 use Rattle.table.specs.Build.{Chunk, Building, keyOf, pairOf, chunkBytes, written, endOf, indexPairs, filtersOf, filterBytes, metaPair, metaBytes, indexBytes, begin, lastKey, close, closeBefore, add, closeLast, finish}
 use Rattle.table.specs.Runs.{filtersNow}

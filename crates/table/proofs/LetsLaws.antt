@@ -8,11 +8,11 @@ use native.Mathlib.Omega.{arith}
 use lib.ListN.{length}
 use Rattle.keys.specs.Order.{userOf}
 use Rattle.keys.proofs.KeyLaws.{user-internal}
-use Rattle.block.specs.Block.{Pair}
-use Rattle.block.specs.Formed.{all}
-use Rattle.filter.specs.Filter.{hash}
-use Rattle.filter.specs.FilterBlock.{bitsPerKey, Filters, noFilters, wait, filtersUpTo, lastFilter, madeBytes, filterBlockBytes}
-use Rattle.filter.proofs.GroupLaws.{Holds, last-holds, holds-may, wait-holds, wait-new, step-length, step-holds}
+use Rattle.blocks.specs.Block.{Pair}
+use Rattle.blocks.specs.Formed.{all}
+use Rattle.filters.specs.Filter.{hash}
+use Rattle.filters.specs.FilterBlock.{bitsPerKey, Filters, noFilters, wait, filtersUpTo, lastFilter, madeBytes, filterBlockBytes}
+use Rattle.filters.proofs.GroupLaws.{Holds, last-holds, holds-may, wait-holds, wait-new, step-length, step-holds}
 use Rattle.table.specs.Options.{Options, Addition}
 use Rattle.table.specs.Table.{mayHold}
 use Rattle.table.specs.Build.{Chunk, keyOf, pairOf, endOf, filtersOf}

@@ -2,8 +2,6 @@ pub mod CheckedLaws
 pub mod StandLaws
 pub mod SearchLaws
 pub mod PlaceLaws
-pub mod FooterLaws
-pub mod BloomLaws
 pub mod FrameLaws
 pub mod PlainLaws
 pub mod LetsLaws

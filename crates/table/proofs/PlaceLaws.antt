@@ -12,8 +12,8 @@ use Rattle.codec.specs.Varint.{Handle}
 use Rattle.codec.proofs.BytesLaws.{part-part, part-most}
 use Rattle.codec.proofs.Prelude.{test, false-is, is-true, is-false, and-l, and-r, and-i}
 use Rattle.codec.proofs.Lists.{All, all-of, Pairs, all-mem, all-append, all-imp, all-map, all-any, pairs-map, pairs-imp, pairs-append, pairs-at}
-use Rattle.block.specs.Block.{Entry, Block, block}
-use Rattle.block.proofs.ReadLaws.{StartsBefore, block-starts, ValueIn, block-values}
+use Rattle.blocks.specs.Block.{Entry, Block, block}
+use Rattle.blocks.proofs.ReadLaws.{StartsBefore, block-starts, ValueIn, block-values}
 use Rattle.table.specs.Checked.{Checked, pass, refuse}
 use Rattle.table.specs.Table.{Footer, footer, Found, foundIn, handleOf, contents, entriesAt, foundsOf, readBlocks, plain}
 use Rattle.table.specs.Promise.{isAt, after, afterMeans, noPlaceMeans, placesDiffer, valuesStand}

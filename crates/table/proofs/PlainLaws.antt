@@ -7,8 +7,8 @@ use lib.ListN.{length, length-append}
 use Rattle.codec.specs.Varint.{Handle, handleBytes}
 use Rattle.codec.proofs.VarintLaws.{Fits, one-handle}
 use Rattle.keys.proofs.KeyLaws.{user-internal, seq-internal, kind-internal}
-use Rattle.block.specs.Block.{Pair, Entry, blockBytes, sharing, since, entryBytes}
-use Rattle.block.proofs.BuildLaws.{entryOf, planned, block-bytes}
+use Rattle.blocks.specs.Block.{Pair, Entry, blockBytes, sharing, since, entryBytes}
+use Rattle.blocks.proofs.BuildLaws.{entryOf, planned, block-bytes}
 use Rattle.table.specs.Checked.{pass}
 use Rattle.table.specs.Options.{Options, indexInterval, Addition, tableLimit}
 use Rattle.table.specs.Table.{footer, handleOf, Found, foundIn, entriesAt, foundsOf, readBlocks, plain}

@@ -13,7 +13,7 @@ use Rattle.codec.proofs.Lists.{All, Pairs, all-mem, all-imp, all-of, orElse, fi
 use Rattle.codec.proofs.BytesLaws.{same-bytes, bytes-same-as}
 use Rattle.keys.specs.Order.{userOf, seqOf, isLess, byBytes, Point, pointOf, byPoint, below}
 use Rattle.keys.proofs.OrderLaws.{three-ways, bytes-eq, Less, UpTo, _≺_, _≼_, ≼-self, ≼-edition, edition-≼, ≼-word, bytes-laws, less-or, less-not-upTo, ≼-≺, ≼-trans, ≺-weak}
-use Rattle.block.specs.Block.{Entry}
+use Rattle.blocks.specs.Block.{Entry}
 use Rattle.table.specs.Checked.{pass}
 use Rattle.table.specs.Table.{Opened, opened, mayHold, handleOf, Found, foundsOf, readBlocks, plain}
 use Rattle.table.specs.Promise.{Passed, notBelow, seekOf, isFor, lookupOf, seekMeans, lookupMeans, seekNone, lookupNone, entriesRise}

@@ -11,10 +11,10 @@ use Rattle.codec.proofs.Prelude.{and-l, and-r, or-cases}
 use Rattle.codec.proofs.Lists.{All, Pairs, all-head, all-append, all-imp, all-map, pairs-map, pairs-append}
 use Rattle.keys.specs.Order.{userOf, byBytes, bytesBelow, Point, pointOf, byPoint, below}
 use Rattle.keys.proofs.OrderLaws.{isEq-eq, Less, _≺_, _≼_, ≼-self, point-laws, bytes-laws, less-upTo-trans, same-upTo, ≼-word, ≺-trans, ≺-≼, ≼-≺, ≼-trans, ≺-weak}
-use Rattle.block.specs.Block.{Pair, Entry, pairsOf, lastKeyOf}
-use Rattle.block.specs.Formed.{Kind, dataBlock, indexBlock, all, enough, rises}
-use Rattle.block.proofs.FormedLaws.{asPair, formed-read, rises-pairs}
-use Rattle.block.proofs.ReadLaws.{EntryBefore}
+use Rattle.blocks.specs.Block.{Pair, Entry, pairsOf, lastKeyOf}
+use Rattle.blocks.specs.Formed.{Kind, dataBlock, indexBlock, all, enough, rises}
+use Rattle.blocks.proofs.FormedLaws.{asPair, formed-read, rises-pairs}
+use Rattle.blocks.proofs.ReadLaws.{EntryBefore}
 use Rattle.table.specs.Checked.{pass}
 use Rattle.table.specs.Table.{contents, placed, sealed, blockOf, indexOf, mayHold, Edge, follows, firstFollows, handleOf, dataBlockOf, dataBlocksOf, Opened, opened, fullCheck, Found, foundIn, entriesAt, foundsOf, readBlocks, plain}
 use Rattle.table.proofs.CheckedLaws.{passing, asking, pass-same, orRefuse-pass}

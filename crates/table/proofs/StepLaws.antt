@@ -7,11 +7,11 @@ use native.Mathlib.Nat.{add-zero}
 use lib.ListN.{length, length-append}
 use Rattle.codec.specs.Bytes.{bytesOf, fours}
 use Rattle.codec.specs.Varint.{varintBytesF, varintBytes, handleBytes}
-use Rattle.block.specs.Block.{headBytes, entryBytes}
-use Rattle.block.proofs.BuildLaws.{one-long, none-long}
-use Rattle.filter.specs.FilterBlock.{Filtering, unfiltered, bitsPerKey, Filters, noFilters, lastFilter, madeBytes, starts, filterBlockOf, filterBlockBytes}
+use Rattle.blocks.specs.Block.{headBytes, entryBytes}
+use Rattle.blocks.proofs.BuildLaws.{one-long, none-long}
+use Rattle.filters.specs.FilterBlock.{Filtering, unfiltered, bitsPerKey, Filters, noFilters, lastFilter, madeBytes, starts, filterBlockOf, filterBlockBytes}
 use Rattle.table.specs.Options.{Options, indexInterval, tableLimit, emptySize, Addition}
-use Rattle.block.specs.Formed.{bloomName}
+use Rattle.blocks.specs.Formed.{bloomName}
 use Rattle.table.specs.Build.{Chunk, Building, framed, chunkBytes, written, endOf, indexPairs, filtersOf, filterBytes, metaName, metaPair, metaBytes, indexBytes, metaHandle, indexHandle, table, lastKey, close, closeLast}
 use Rattle.table.proofs.FrameLaws.{framed-length, footer-long}
 use Rattle.table.proofs.PlainLaws.{table-long}

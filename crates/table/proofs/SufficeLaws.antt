@@ -12,16 +12,16 @@ use Rattle.codec.specs.Bytes.{common}
 use Rattle.codec.proofs.Prelude.{test, both, is-true}
 use Rattle.keys.specs.Order.{below}
 use Rattle.keys.proofs.StartLaws.{above-fresh}
-use Rattle.block.specs.Block.{Pair, packed}
-use Rattle.block.specs.Count.{BlockCount, countOf, noEntries, countEntry, countSize}
+use Rattle.blocks.specs.Block.{Pair, packed}
+use Rattle.blocks.specs.Count.{BlockCount, countOf, noEntries, countEntry, countSize}
 use Rattle.codec.specs.Limits.{within}
-use Rattle.block.specs.Formed.{dataBlock, entryFits, all, rises}
-use Rattle.block.proofs.CountLaws.{count-none, count-zero, Fresh, packed-fours}
-use Rattle.filter.specs.Filter.{hash}
-use Rattle.filter.specs.FilterBlock.{Filters, noFilters, wait, filtersUpTo, lastFilter}
-use Rattle.filter.specs.FilterCount.{filterCountOf, countLast, filterBlockSize}
-use Rattle.filter.proofs.FilterBlockLaws.{starts-length}
-use Rattle.filter.proofs.FilterCountLaws.{count-upTo, count-last, Kept, upTo-kept, last-kept}
+use Rattle.blocks.specs.Formed.{dataBlock, entryFits, all, rises}
+use Rattle.blocks.proofs.CountLaws.{count-none, count-zero, Fresh, packed-fours}
+use Rattle.filters.specs.Filter.{hash}
+use Rattle.filters.specs.FilterBlock.{Filters, noFilters, wait, filtersUpTo, lastFilter}
+use Rattle.filters.specs.FilterCount.{filterCountOf, countLast, filterBlockSize}
+use Rattle.filters.proofs.FilterBlockLaws.{starts-length}
+use Rattle.filters.proofs.FilterCountLaws.{count-upTo, count-last, Kept, upTo-kept, last-kept}
 use Rattle.table.specs.Options.{Options, indexInterval, optionsFit, Addition}
 use Rattle.table.specs.Table.{Edge}
 use Rattle.table.specs.Build.{Chunk, Building, pairOf, written, endOf, indexPairs, filtersOf, begin, lastKey, closeLast, finish}

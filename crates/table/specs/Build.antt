@@ -7,10 +7,10 @@ use lib.ListN.{length, replicate}
 use Rattle.codec.specs.Checksum.{trailer}
 use Rattle.codec.specs.Varint.{Handle, handleBytes}
 use Rattle.keys.specs.Order.{internal, separator, below}
-use Rattle.block.specs.Block.{Pair, blockBytes, lastKeyOf}
-use Rattle.block.specs.Formed.{bloomName}
-use Rattle.filter.specs.Filter.{hash}
-use Rattle.filter.specs.FilterBlock.{Filtering, unfiltered, bitsPerKey, Filters, noFilters, wait, filtersUpTo, lastFilter, filterBlockBytes}
+use Rattle.blocks.specs.Block.{Pair, blockBytes, lastKeyOf}
+use Rattle.blocks.specs.Formed.{bloomName}
+use Rattle.filters.specs.Filter.{hash}
+use Rattle.filters.specs.FilterBlock.{Filtering, unfiltered, bitsPerKey, Filters, noFilters, wait, filtersUpTo, lastFilter, filterBlockBytes}
 use Rattle.table.specs.Checked.{Checked, pass, ask, _>>=_}
 use Rattle.table.specs.Options.{Options, indexInterval, Addition, additionFits}
 use Rattle.table.specs.Table.{magic}

@@ -6,8 +6,8 @@ use mathlib.Core.Bool.{true, false}
 use lib.Dec.{ltb}
 use lib.ListN.{length}
 use Rattle.keys.specs.Order.{separator}
-use Rattle.block.specs.Count.{BlockCount, countOf, noEntries, varintSize, entrySize, countEntry, countSize}
-use Rattle.filter.specs.FilterCount.{FilterCount, filterCountOf, countWaiting, countUpTo, countLast, filterBlockSize}
+use Rattle.blocks.specs.Count.{BlockCount, countOf, noEntries, varintSize, entrySize, countEntry, countSize}
+use Rattle.filters.specs.FilterCount.{FilterCount, filterCountOf, countWaiting, countUpTo, countLast, filterBlockSize}
 use Rattle.table.specs.Options.{Options, indexInterval}
 use Rattle.table.specs.Build.{Building, pairOf, written, indexPairs, metaName}
 use Rattle.table.specs.Runs.{filtersNow}

@@ -7,4 +7,3 @@ pub mod Runs
 pub mod Counts
 pub mod Sizes
 pub mod Reads
-pub mod Answers

@@ -5,7 +5,7 @@ use mathlib.Core.List.{List}
 use lib.Dec.{leb, ltb}
 use lib.ListN.{length}
 use Rattle.codec.specs.Limits.{within}
-use Rattle.filter.specs.FilterBlock.{Filtering, unfiltered, bitsPerKey}
+use Rattle.filters.specs.FilterBlock.{Filtering, unfiltered, bitsPerKey}
 
 -- restart interval, block size, filter choice
 pub record Options : Type 0 where

@@ -4,9 +4,9 @@ use mathlib.Core.List.{List, [], _++_, map}
 use mathlib.Core.Bool.{_&&_}
 use lib.Dec.{leb}
 use lib.ListN.{length, drop}
-use Rattle.block.specs.Block.{Pair, packed, restartsOf}
-use Rattle.filter.specs.Filter.{hash}
-use Rattle.filter.specs.FilterBlock.{Filters, noFilters, wait, lastFilter, madeBytes, starts}
+use Rattle.blocks.specs.Block.{Pair, packed, restartsOf}
+use Rattle.filters.specs.Filter.{hash}
+use Rattle.filters.specs.FilterBlock.{Filters, noFilters, wait, lastFilter, madeBytes, starts}
 use Rattle.table.specs.Checked.{Checked, ask, _>>=_}
 use Rattle.table.specs.Options.{Options, indexInterval, optionsFit, emptySize, tableLimit, Addition}
 use Rattle.table.specs.Build.{Building, pairOf, written, indexPairs, filtersOf, closeLast, finish}

@@ -9,10 +9,10 @@ use Rattle.codec.specs.Bytes.{part, sameBytes}
 use Rattle.codec.specs.Checksum.{trailerStands}
 use Rattle.codec.specs.Varint.{Handle, handle, oneHandle}
 use Rattle.keys.specs.Order.{userOf, pointOf, byPoint, bytesBelow, below}
-use Rattle.block.specs.Block.{Pair, lastKeyOf, Entry, pairsOf, block}
-use Rattle.block.specs.Formed.{Kind, dataBlock, indexBlock, metaBlock, bloomName, all, rises, wellFormed}
-use Rattle.filter.specs.Filter.{hash}
-use Rattle.filter.specs.FilterBlock.{filterFormed, mayMatch}
+use Rattle.blocks.specs.Block.{Pair, lastKeyOf, Entry, pairsOf, block}
+use Rattle.blocks.specs.Formed.{Kind, dataBlock, indexBlock, metaBlock, bloomName, all, rises, wellFormed}
+use Rattle.filters.specs.Filter.{hash}
+use Rattle.filters.specs.FilterBlock.{filterFormed, mayMatch}
 use Rattle.table.specs.Checked.{Checked, pass, refuse, _>>=_, ask, orRefuse}
 use Rattle.table.specs.Options.{tableLimit}
 

@@ -1,4 +1,2 @@
-// Whole tables: what stands at their end, where blocks may stand, and the filter that the metaindex names. The definitions of the full check, the plain reading and
-// building are in specs/.
-pub mod footer;
-pub mod table_block;
+// Whole tables: the full check, the plain reading, building, and what is promised of them. The definitions are in specs/, laws about them
+// in proofs/; code is in crates above.

@@ -4,7 +4,7 @@ use Prim.Native.Nat.{ℕ, min}
 use native.Mathlib.Omega.{arith}
 use lib.ListN.{take}
 use lib.Seq.{length-take-le}
-use Rattle.block.proofs.BuilderCode.{front}
+use Rattle.block_builder.proofs.BuilderCode.{front}
 use Rattle.builder.specs.Steps.{closedState}
 use borrow.Author.Needs.{needs}
 use Rattle.builder.proofs.table_builder.closed_under.Statement.{statement}

@@ -1,6 +1,6 @@
 -- `builder::table_builder::filter_last` meets its contract.
 use mathlib.Core.Path.{refl}
-use Rattle.filter.specs.declared.filter_block.Made.the-variants as MadeCase
+use Rattle.filter_block.specs.declared.filter_block.Made.the-variants as MadeCase
 use borrow.Author.Needs.{needs}
 use Rattle.builder.proofs.table_builder.filter_last.Statement.{statement}
 use Rattle.builder.proofs.table_builder.filter_last.Tie as tie

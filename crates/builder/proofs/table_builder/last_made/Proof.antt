@@ -1,6 +1,6 @@
 -- `builder::table_builder::last_made` meets its contract.
 use mathlib.Core.Path.{_∙_}
-use Rattle.filter.specs.Choice.{choiceOf}
+use Rattle.filter_block.specs.Choice.{choiceOf}
 use Rattle.builder.specs.Steps.{filterCountIn}
 use Rattle.builder.proofs.SizeLaws.{last-no, last-yes}
 use borrow.Author.Needs.{needs}

@@ -2,7 +2,7 @@
 use native.Mathlib.Omega.{arith}
 use mathlib.Core.Path.{ap, _∙_}
 use Prim.Native.Nat.{ℕ, _+_}
-use Rattle.filter.specs.Choice.{choiceOf}
+use Rattle.filter_block.specs.Choice.{choiceOf}
 use Rattle.builder.specs.Steps.{filterCountIn}
 use Rattle.builder.proofs.SizeLaws.{made-no, made-yes, more-bytes}
 use borrow.Author.Needs.{needs}

@@ -1,6 +1,6 @@
 -- `builder::table_builder::name_len` meets its contract.
 use Rattle.builder.proofs.SizeLaws.{name-some}
-use Rattle.filter.specs.Choice.{choiceOf}
+use Rattle.filter_block.specs.Choice.{choiceOf}
 use Rattle.table.specs.Build.{metaName}
 use borrow.Author.Needs.{needs}
 use Rattle.builder.proofs.table_builder.name_len.Statement.{statement}

@@ -2,7 +2,7 @@
 use mathlib.Core.Path.{refl, sym}
 use native.Mathlib.Omega.{arith}
 use lib.Seq.{length-take-le}
-use Rattle.block.specs.Formed.{bloomName}
+use Rattle.blocks.specs.Formed.{bloomName}
 use Rattle.table.specs.Build.{metaName}
 use Rattle.codec.specs.Varint.{handleBytes}
 use Rattle.codec.proofs.PutLaws.{front-never, front-put}

@@ -4,8 +4,8 @@ use mathlib.Core.Path.{_≡_, sym, ap, subst, _∙_}
 use mathlib.Core.List.{List}
 use native.Mathlib.Omega.{arith}
 use Rattle.codec.specs.Varint.{Handle}
-use Rattle.block.specs.declared.block.Kind.the-variants as KindCase
-use Rattle.block.specs.Search.{kindOf}
+use Rattle.block_reader.specs.declared.block.Kind.the-variants as KindCase
+use Rattle.block_reader.specs.Said.{kindOf}
 use Rattle.full_check.specs.declared.check.Verdict.{Verdict}
 use Rattle.full_check.specs.declared.check.Verdict.the-variants as VerdictCase
 use Rattle.full_check.specs.Answers.{verdictOf}

@@ -7,13 +7,13 @@ use native.Mathlib.Omega.{arith}
 use lib.ListN.{length}
 use lib.Seq.{length-take-le}
 use Rattle.keys.specs.Order.{userOf}
-use Rattle.block.specs.Block.{Entry, pairsOf}
-use Rattle.block.specs.Formed.{all}
-use Rattle.block.proofs.EntryLaws.{Taken}
-use Rattle.block.proofs.RestLaws.{rest-bad, rest-taken}
-use Rattle.block.proofs.WalkLaws.{Scanning, Same, scan-start, scan-bad, scan-end, scan-more, scan-hit}
-use Rattle.filter.specs.Filter.{hash}
-use Rattle.filter.specs.FilterBlock.{mayMatch}
+use Rattle.blocks.specs.Block.{Entry, pairsOf}
+use Rattle.blocks.specs.Formed.{all}
+use Rattle.block_reader.proofs.EntryLaws.{Taken}
+use Rattle.block_reader.proofs.RestLaws.{rest-bad, rest-taken}
+use Rattle.block_reader.proofs.WalkLaws.{Scanning, Same, scan-start, scan-bad, scan-end, scan-more, scan-hit}
+use Rattle.filters.specs.Filter.{hash}
+use Rattle.filters.specs.FilterBlock.{mayMatch}
 use Rattle.full_check.specs.Steps.{lets}
 use Rattle.full_check.proofs.KeyLaws.{held-end, held-more, held-stop}
 use borrow.Author.Needs.{needs}

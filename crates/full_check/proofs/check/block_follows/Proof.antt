@@ -5,7 +5,7 @@ use mathlib.Core.List.{List}
 use native.Mathlib.Omega.{arith}
 use lib.ListN.{length, replicate}
 use lib.Seq.{length-take-le}
-use Rattle.block.proofs.EntryLaws.{Taken, taken}
+use Rattle.block_reader.proofs.EntryLaws.{Taken, taken}
 use Rattle.full_check.proofs.KeyLaws.{first-none, first-some}
 use borrow.Author.Needs.{needs}
 use Rattle.full_check.proofs.check.block_follows.Statement.{statement}

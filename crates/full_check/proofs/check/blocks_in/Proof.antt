@@ -9,10 +9,10 @@ use lib.Dec.{eqb}
 use lib.ListN.{length, take}
 use lib.Seq.{length-take-le}
 use Rattle.codec.specs.Varint.{Handle}
-use Rattle.block.specs.Block.{Pair, pairsOf}
-use Rattle.block.proofs.EntryLaws.{Taken}
-use Rattle.block.proofs.RestLaws.{rest-bad, rest-taken, value-lent}
-use Rattle.block.proofs.WalkLaws.{Scanning, scan-start, scan-bad, scan-end, scan-more, scan-hit}
+use Rattle.blocks.specs.Block.{Pair, pairsOf}
+use Rattle.block_reader.proofs.EntryLaws.{Taken}
+use Rattle.block_reader.proofs.RestLaws.{rest-bad, rest-taken, value-lent}
+use Rattle.block_reader.proofs.WalkLaws.{Scanning, scan-start, scan-bad, scan-end, scan-more, scan-hit}
 use Rattle.table.specs.Checked.{Checked}
 use Rattle.table.specs.Table.{Edge, handleOf}
 use Rattle.full_check.specs.declared.check.DataRead.{DataRead}

@@ -6,9 +6,9 @@ use mathlib.Core.Option.{Option}
 use native.Mathlib.Omega.{arith}
 use lib.ListN.{take}
 use lib.Seq.{length-take-le}
-use Rattle.block.specs.declared.block.Kind.the-variants as KindCase
-use Rattle.block.specs.Block.{pairsOf}
-use Rattle.block.specs.Search.{kindOf}
+use Rattle.block_reader.specs.declared.block.Kind.the-variants as KindCase
+use Rattle.blocks.specs.Block.{pairsOf}
+use Rattle.block_reader.specs.Said.{kindOf}
 use Rattle.table.specs.Table.{Edge}
 use Rattle.full_check.specs.declared.check.Rising.{Rising}
 use Rattle.full_check.specs.declared.check.Rising.the-variants as RisingCase

@@ -7,11 +7,11 @@ use mathlib.Core.Option.{Option, some}
 use native.Mathlib.Omega.{arith}
 use lib.ListN.{length, take}
 use lib.Seq.{length-take-le}
-use Rattle.block.specs.declared.block.Kind.the-variants as KindCase
-use Rattle.block.specs.Block.{Entry, pairsOf}
-use Rattle.block.specs.Formed.{rises}
-use Rattle.block.specs.Search.{kindOf}
-use Rattle.block.specs.Steps.{readFrom}
+use Rattle.block_reader.specs.declared.block.Kind.the-variants as KindCase
+use Rattle.blocks.specs.Block.{Entry, pairsOf}
+use Rattle.blocks.specs.Formed.{rises}
+use Rattle.block_reader.specs.Said.{kindOf}
+use Rattle.block_reader.specs.Steps.{readFrom}
 use Rattle.table.specs.Table.{Edge, firstFollows}
 use Rattle.full_check.specs.declared.check.Rising.{Rising}
 use Rattle.full_check.specs.declared.check.Rising.the-variants as RisingCase

@@ -8,12 +8,12 @@ use native.Mathlib.Omega.{arith}
 use lib.Dec.{eqb}
 use lib.ListN.{length, take}
 use lib.Seq.{length-take-le}
-use Rattle.block.specs.Formed.{Kind, rises}
-use Rattle.block.specs.Block.{pairsOf}
-use Rattle.block.specs.Search.{kindOf}
-use Rattle.block.proofs.EntryLaws.{Taken}
-use Rattle.block.proofs.RestLaws.{rest-bad, rest-taken}
-use Rattle.block.proofs.WalkLaws.{Scanning, scan-start, scan-bad, scan-end, scan-more, scan-hit}
+use Rattle.blocks.specs.Formed.{Kind, rises}
+use Rattle.blocks.specs.Block.{pairsOf}
+use Rattle.block_reader.specs.Said.{kindOf}
+use Rattle.block_reader.proofs.EntryLaws.{Taken}
+use Rattle.block_reader.proofs.RestLaws.{rest-bad, rest-taken}
+use Rattle.block_reader.proofs.WalkLaws.{Scanning, scan-start, scan-bad, scan-end, scan-more, scan-hit}
 use Rattle.full_check.specs.Steps.{lessOf, after}
 use Rattle.codec.proofs.PutLaws.{put-start}
 use Rattle.full_check.proofs.KeyLaws.{RisesLeft, rises-start, rises-end, rises-more, rises-stop}

@@ -1,7 +1,7 @@
 -- `full_check::check::may_hold` meets its contract.
 use mathlib.Core.Path.{ap, _∙_}
-use Rattle.filter.specs.Filter.{hash}
-use Rattle.filter.specs.FilterBlock.{mayMatch}
+use Rattle.filters.specs.Filter.{hash}
+use Rattle.filters.specs.FilterBlock.{mayMatch}
 use borrow.Author.Needs.{needs}
 use Rattle.full_check.proofs.check.may_hold.Statement.{statement}
 use Rattle.full_check.proofs.check.may_hold.Tie as tie

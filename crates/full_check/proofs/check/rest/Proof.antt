@@ -2,7 +2,7 @@
 use mathlib.Core.Path.{sym, ap, _∙_}
 use mathlib.Core.Option.{Option}
 use Rattle.codec.specs.Varint.{Handle}
-use Rattle.block.specs.Block.{pairsOf}
+use Rattle.blocks.specs.Block.{pairsOf}
 use Rattle.full_check.specs.Answers.{verdictOf}
 use Rattle.full_check.specs.Steps.{withFilter}
 use Rattle.full_check.proofs.CheckLaws.{no-filter, names-none, names-some}

@@ -2,7 +2,7 @@
 use mathlib.Core.Path.{sym, subst, _∙_}
 use mathlib.Core.List.{List}
 use native.Mathlib.Omega.{arith}
-use Rattle.block.specs.Block.{Entry}
+use Rattle.blocks.specs.Block.{Entry}
 use Rattle.table.specs.Checked.{Checked}
 use Rattle.full_check.specs.Steps.{Judged}
 use Rattle.full_check.proofs.BlockLaws.{stands-within, sorted-unsealed, sorted-sealed}

@@ -5,8 +5,8 @@ use mathlib.Core.List.{List}
 use native.Mathlib.Omega.{arith}
 use lib.ListN.{take}
 use lib.Seq.{length-take-le}
-use Rattle.block.specs.Formed.{Kind, rises}
-use Rattle.block.specs.Search.{kindOf}
+use Rattle.blocks.specs.Formed.{Kind, rises}
+use Rattle.block_reader.specs.Said.{kindOf}
 use Rattle.full_check.specs.declared.check.Rising.{Rising}
 use Rattle.full_check.specs.Steps.{lessOf, Tested}
 use Rattle.full_check.proofs.BlockLaws.{end-within, Formed, formed, formed-to, sorted-malformed, judged-pass, sorted-falls, sorted-rises}

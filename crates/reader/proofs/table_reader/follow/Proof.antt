@@ -6,7 +6,7 @@ use mathlib.Core.List.{List}
 use native.Mathlib.Omega.{arith}
 use lib.ListN.{length}
 use Rattle.codec.specs.Varint.{Handle}
-use Rattle.block.specs.declared.block.Which.the-variants as WhichCase
+use Rattle.block_reader.specs.declared.block.Which.the-variants as WhichCase
 use Rattle.table.specs.Table.{endsBefore}
 use Rattle.reader.proofs.PassedLaws.{placed-within}
 use Rattle.reader.proofs.HitLaws.{contents-is, picks-place, asks-none, said-adds, hit-says}

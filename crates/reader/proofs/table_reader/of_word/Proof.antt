@@ -6,7 +6,7 @@ use mathlib.Core.List.{List}
 use native.Mathlib.Omega.{arith}
 use lib.Seq.{length-take-le}
 use Rattle.codec.specs.Bytes.{sameBytes}
-use Rattle.block.proofs.FilledLaws.{name-same, name-less, name-greater}
+use Rattle.block_reader.proofs.FilledLaws.{name-same, name-less, name-greater}
 use Rattle.reader.specs.Parts.{Short}
 use Rattle.reader.proofs.LookLaws.{word-refused, word-none, word-other, word-same}
 use borrow.Author.Needs.{needs}

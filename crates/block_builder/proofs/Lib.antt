@@ -1,0 +1,2 @@
+pub mod BuilderCode
+pub mod BuilderLaws

@@ -1,0 +1,2 @@
+pub mod Builder
+pub mod Plan

@@ -1,0 +1,2 @@
+// Building a block into lent runs.
+pub mod block_builder;

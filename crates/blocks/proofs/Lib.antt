@@ -1,0 +1,4 @@
+pub mod ReadLaws
+pub mod BuildLaws
+pub mod CountLaws
+pub mod FormedLaws

@@ -1,0 +1,4 @@
+pub mod Block
+pub mod Count
+pub mod Formed
+pub mod Search

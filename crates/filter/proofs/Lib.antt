@@ -1,9 +1,0 @@
-pub mod FilterLaws
-pub mod FilterBlockLaws
-pub mod GroupLaws
-pub mod HashLaws
-pub mod FilterCountLaws
-pub mod FilterCode
-pub mod ProbeLaws
-pub mod FilterBlockCode
-pub mod MakeLaws

@@ -1,3 +1,0 @@
-// Bloom filters and the filter block.
-pub mod filter;
-pub mod filter_block;

@@ -1,0 +1,5 @@
+pub mod HashLaws
+pub mod FilterCode
+pub mod ProbeLaws
+pub mod FilterBlockCode
+pub mod MakeLaws

@@ -1,0 +1,4 @@
+pub mod FilterLaws
+pub mod FilterBlockLaws
+pub mod GroupLaws
+pub mod FilterCountLaws

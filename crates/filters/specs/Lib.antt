@@ -1,0 +1,3 @@
+pub mod Filter
+pub mod FilterBlock
+pub mod FilterCount

@@ -1,0 +1,2 @@
+pub mod FooterLaws
+pub mod BloomLaws
