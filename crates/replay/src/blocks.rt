@@ -1,7 +1,4 @@
 // Commands on blocks: one is built or loaded, and the others damage it or read it. What is loaded may be a table as well.
-use crate::fields;
-use crate::fields::front;
-use crate::show;
 use block_builder::block_builder::BlockBuilder;
 use block_reader::block as rows;
 use block_reader::block::EntryRead;
@@ -9,6 +6,9 @@ use block_reader::block::Found;
 use block_reader::block::Kind;
 use block_reader::block::Which;
 use codec::put::Written;
+use lines::fields;
+use lines::fields::front;
+use lines::show;
 
 struct Grown {
     next: usize,

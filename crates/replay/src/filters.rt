@@ -1,11 +1,11 @@
 // Commands on filters and filter blocks.
-use crate::fields;
-use crate::fields::front;
-use crate::show;
 use filter_block::filter as bloom;
 use filter_block::filter::Filter;
 use filter_block::filter_block as groups;
 use filter_block::filter_block::Made;
+use lines::fields;
+use lines::fields::front;
+use lines::show;
 
 pub fn knows(op: u8) -> bool {
     op == b'h' || op == b'b' || op == b'f' || op == b'm' || op == b'w' || op == b'q' || op == b'M'
@@ -100,11 +100,7 @@ fn may(s: &[u8], at: usize) {
 fn formed(s: &[u8], at: usize) {
     let mut a = [0u8; 2600];
     let fa = fields::field(s, at, &mut a);
-    show::yes(
-        groups::is_formed(front(&a, fa.len)),
-        b" not",
-        b" formed",
-    );
+    show::yes(groups::is_formed(front(&a, fa.len)), b" not", b" formed");
 }
 
 fn asked(s: &[u8], at: usize) {

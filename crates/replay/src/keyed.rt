@@ -1,12 +1,12 @@
 // Commands on keys.
-use crate::fields;
-use crate::fields::front;
-use crate::show;
 use keys::cmp;
 use keys::cmp::Ordering;
 use keys::key_types;
 use keys::key_types::KeyRead;
 use keys::key_types::ValueType;
+use lines::fields;
+use lines::fields::front;
+use lines::show;
 
 pub fn knows(op: u8) -> bool {
     op == b'c'

@@ -4,11 +4,12 @@ ghost use Prim.Native.Nat.{_<_};
 ghost use lib.ListN.{length};
 
 mod blocks;
-mod fields;
 mod filters;
 mod keyed;
-mod show;
 mod tables;
+
+use lines::fields;
+use lines::show;
 
 // Where the next line starts, and how long the loaded bytes are.
 struct Answered {

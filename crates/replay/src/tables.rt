@@ -1,9 +1,9 @@
 // Commands on tables: the full check and the reads, of the loaded bytes.
-use crate::fields;
-use crate::fields::front;
-use crate::show;
 use full_check::check;
 use full_check::check::Verdict;
+use lines::fields;
+use lines::fields::front;
+use lines::show;
 use reader::table_reader;
 use reader::table_reader::Entry;
 use reader::table_reader::Found;

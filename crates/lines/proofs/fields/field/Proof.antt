@@ -3,8 +3,8 @@ use Prim.Native.Nat.{_-_}
 use mathlib.Core.Path.{_≡_}
 use lib.ListN.{length}
 use borrow.Author.Needs.{needs}
-use Rattle.replay.proofs.fields.field.Statement.{statement}
-use Rattle.replay.proofs.fields.field.Tie as tie
+use Rattle.lines.proofs.fields.field.Statement.{statement}
+use Rattle.lines.proofs.fields.field.Tie as tie
 
 abbrev Inv-loop : tie.InvT-loop
 Inv-loop s at out₀ i₀ n₀ out i n = length out ≡ length out₀

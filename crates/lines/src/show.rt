@@ -36,7 +36,7 @@ fn byte(b: u8) {
     io::print_hex(STDOUT_FILENO, b as u64, 2);
 }
 
-fn hex(s: &[u8]) {
+pub fn hex(s: &[u8]) {
     let mut i: usize = 0;
     while i < s.len() {
         byte(s[i]);

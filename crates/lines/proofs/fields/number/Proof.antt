@@ -2,8 +2,8 @@
 use Prim.Native.Nat.{_-_}
 use lib.ListN.{length}
 use borrow.Author.Needs.{needs}
-use Rattle.replay.proofs.fields.number.Statement.{statement}
-use Rattle.replay.proofs.fields.number.Tie as tie
+use Rattle.lines.proofs.fields.number.Statement.{statement}
+use Rattle.lines.proofs.fields.number.Tie as tie
 
 abbrev Inv-loop : tie.InvT-loop
 Inv-loop s at value₀ i₀ value i = Unit {0}

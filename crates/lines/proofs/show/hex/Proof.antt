@@ -1,9 +1,9 @@
--- A search to the end of a slice.
+-- The bytes of a slice, one after the other.
 use Prim.Native.Nat.{_-_}
 use lib.ListN.{length}
 use borrow.Author.Needs.{needs}
-use Rattle.replay.proofs.show.untouched.Statement.{statement}
-use Rattle.replay.proofs.show.untouched.Tie as tie
+use Rattle.lines.proofs.show.hex.Statement.{statement}
+use Rattle.lines.proofs.show.hex.Tie as tie
 
 abbrev Inv-loop : tie.InvT-loop
 Inv-loop s i₀ i = Unit {0}
@@ -14,11 +14,11 @@ abbrev μ-loop : tie.MeasureT-loop
 loop-holds : tie.Need-loop-holds Inv-loop μ-loop
 loop-holds c = search needs
 
-shared-slice-read-if1 : tie.Need-shared-slice-read-if1 Inv-loop μ-loop
-shared-slice-read-if1 c = search needs
+shared-slice-read-byte : tie.Need-shared-slice-read-byte Inv-loop μ-loop
+shared-slice-read-byte c = search needs
 
-returns : tie.Need-returns Inv-loop μ-loop
-returns c = search needs
+byte-requires : tie.Need-byte-requires Inv-loop μ-loop
+byte-requires c κs = search needs
 
 add-i : tie.Need-add-i Inv-loop μ-loop
 add-i c = search needs
@@ -29,19 +29,19 @@ loop-less c = search needs
 loop-again : tie.Need-loop-again Inv-loop μ-loop
 loop-again c = search needs
 
-returns-2 : tie.Need-returns-2 Inv-loop μ-loop
-returns-2 c = search needs
+returns : tie.Need-returns Inv-loop μ-loop
+returns c = search needs
 
-pub untouched-spec : {M : Type 1} → statement M
-untouched-spec =
+pub hex-spec : {M : Type 1} → statement M
+hex-spec =
     tie.close
     (tie.spec
     Inv-loop
     μ-loop
     loop-holds
-    shared-slice-read-if1
-    returns
+    shared-slice-read-byte
+    byte-requires
     add-i
     loop-less
     loop-again
-    returns-2)
+    returns)

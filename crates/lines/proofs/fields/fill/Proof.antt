@@ -4,8 +4,8 @@ use mathlib.Core.Path.{_≡_}
 use lib.ListN.{length, length-set}
 use borrow.Author.Needs.{needs}
 use native.Mathlib.Omega.{arith}
-use Rattle.replay.proofs.fields.fill.Statement.{statement}
-use Rattle.replay.proofs.fields.fill.Tie as tie
+use Rattle.lines.proofs.fields.fill.Statement.{statement}
+use Rattle.lines.proofs.fields.fill.Tie as tie
 
 abbrev Inv-loop : tie.InvT-loop
 Inv-loop out₀ from times b i₀ left₀ out i left = length out ≡ length out₀
