@@ -162,15 +162,15 @@ module _ (t : List ℕ) (k : List ℕ) (l : 1032 ≤ length k) where
     step-found ix at w =
         record { answer = w .answer; shown = same ∙ w .shown; is = record { two = λ m. absurd (omega arith); table = λ m. of-answer t i (w .answer) (w .is) (w .inside); buffer = handed (w .answer) (w .shown) (w .holds) } }
 
--- ---- a value
+-- ---- a part of the table
 
 module _ (t : List ℕ) (from len : ℕ) where
-  pub value-past : length t < from → take (length t - length t) (drop (length t) t) ≡ part t from len
+  pub part-past : length t < from → take (length t - length t) (drop (length t) t) ≡ part t from len
   unfolding part
-  value-past h =
+  part-past h =
       no-length (take (length t - length t) (drop (length t) t)) (simp (length-take, length-drop) (omega arith))
       ∙ sym (no-length (take len (drop from t)) (simp (length-take, length-drop) (omega arith)))
 
-  pub value-rest : length t - from < len → take (length t - from) (drop from t) ≡ part t from len
+  pub part-rest : length t - from < len → take (length t - from) (drop from t) ≡ part t from len
   unfolding part
-  value-rest l = take-all (length t - from) (drop from t) (omega (arith, length-drop from t)) ∙ sym (take-all len (drop from t) (omega (arith, length-drop from t)))
+  part-rest l = take-all (length t - from) (drop from t) (omega (arith, length-drop from t)) ∙ sym (take-all len (drop from t) (omega (arith, length-drop from t)))

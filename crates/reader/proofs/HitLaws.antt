@@ -6,13 +6,13 @@ use mathlib.Core.Bool.{Bool, true}
 use mathlib.Core.Option.{Option, none, some, Option·some-inj, Option·none-ne-some}
 use native.Mathlib.Omega.{arith}
 use lib.Dec.{T, eqb, leb, leb→le, le→leb}
-use lib.ListN.{length, take, drop}
+use lib.ListN.{length, take}
 use lib.Seq.{length-take-le}
 use borrow.Author.Tests.{le-leb}
 use Rattle.codec.specs.Bytes.{part}
 use Rattle.codec.specs.Maybe.{first}
 use Rattle.codec.specs.Varint.{Handle}
-use Rattle.codec.proofs.BytesLaws.{part-length, part-part, part-most, part-between}
+use Rattle.codec.proofs.BytesLaws.{part-length, part-part, part-most}
 use Rattle.codec.proofs.Lists.{All, Pairs, all-mem, first-yes, first-no}
 use Rattle.codec.proofs.MaybeLaws.{getting, giving}
 use Rattle.codec.proofs.Prelude.{test, and-i, true-is, false-is}
@@ -164,10 +164,11 @@ module _ (t : List ℕ) (h : Handle) (index : ℕ) where
           rw (room k x long (all-mem (r .short) m), foundAnswer, put-start k (x .key) (length (x .key)) refl (omega (arith, long, leb→le (length (x .key)) 1032 (all-mem (r .short) m))), value-is t h x (all-mem (r .values) m)) refl
 
   -- what was found in the block, of a kind of search on it
-  pub hit-says : {says : List Entry → Option (Option Entry)} {ordered : List Entry → Bool} {k : List ℕ} {f : Found} {k′ : List ℕ} → Picks says → Asks ordered → endsBefore (length t) (h .offset) (h .size) ≡ true
-      → Said (contents t h) says ordered k f k′ → length k ≡ 1032 → length k′ ≡ 1032 → {r : Sought} → r ≡ hitOf index (h .offset) f → Tells soughtOf t (Says t index (h .offset) (h .size) says) r k′
+  pub hit-says : {says : List Entry → Option (Option Entry)} {ordered : List Entry → Bool} {s k : List ℕ} {f : Found} {k′ : List ℕ} → Picks says → Asks ordered → endsBefore (length t) (h .offset) (h .size) ≡ true
+      → s ≡ contents t h → Said s says ordered k f k′ → length k ≡ 1032 → length k′ ≡ 1032 → {r : Sought} → r ≡ hitOf index (h .offset) f → Tells soughtOf t (Says t index (h .offset) (h .size) says) r k′
   unfolding contents
-  hit-says picks asks placed s long long′ is =
+  hit-says picks asks placed s-is said long long′ is =
+      let s = rw s-is at said in
       let w = hit-tells t h index placed s long′ in
       record { answer = w .answer; shown = is ∙ w .shown; holds = w .holds; inside = w .inside; is = λ es read order. w .is ∙ hit-is picks s long es read (asks es order) }
 
@@ -189,6 +190,6 @@ module _ {s : List ℕ} {says : List Entry → Option (Option Entry)} {ordered :
   said-adds t h FoundCase.Bad w e placed big = tt
 
 -- a block as code hands it on
-pub contents-is : (t : List ℕ) (offset size : ℕ) → take (offset + size - offset) (drop offset t) ≡ contents t (record { offset = offset; size = size })
+pub contents-is : (t : List ℕ) (offset size : ℕ) {s : List ℕ} → s ≡ part t offset size → s ≡ contents t (record { offset = offset; size = size })
 unfolding contents
-contents-is t offset size = part-between t offset size
+contents-is t offset size e = e

@@ -17,11 +17,11 @@ use Rattle.blocks.specs.Formed.{dataBlock, indexBlock, isHandle, entryFits, all
 use Rattle.blocks.specs.Search.{readable, inOrder}
 use Rattle.blocks.proofs.FormedLaws.{asPair, formed-read, formed-readable}
 use Rattle.table.specs.Checked.{pass}
-use Rattle.table.specs.Table.{Footer, footer, footerHandles, endsBefore, placed, contents, sealed, blockOf, indexOf, handleOf, entriesAt, dataBlockOf, dataBlocksOf, Edge, Opened, opened, fullCheck}
+use Rattle.table.specs.Table.{Footer, endsBefore, placed, contents, sealed, blockOf, indexOf, handleOf, entriesAt, dataBlockOf, dataBlocksOf, Edge, Opened, opened, fullCheck}
 use Rattle.table.specs.Promise.{Passed}
 use Rattle.table.proofs.CheckedLaws.{passing, asking, pass-same, orRefuse-pass}
 use Rattle.table.proofs.StandLaws.{all-entries, block-of, index-read, Laid, laid, stands}
-use Rattle.reader.specs.Parts.{Indexed, Named}
+use Rattle.reader.specs.Parts.{Indexed}
 
 -- ---- where a block may stand
 
@@ -133,28 +133,3 @@ passed-indexed t p =
     passing _ _ p λ o op q.
     passing _ _ op λ ft foot r.
     (ft, record { foot = ft; reads = foot; index = refl })
-
--- ---- the footer's blocks lie before it
-
-record Both (t : List ℕ) (f : Footer) : Type 0 where
-  metaindex : endsBefore (length t) (f .metaindex .offset) (f .metaindex .size) ≡ true
-  index : endsBefore (length t) (f .index .offset) (f .index .size) ≡ true
-
-both-placed : (t : List ℕ) {f : Footer} → footer t ≡ pass f → Both t f
-unfolding footer footerHandles placed
-both-placed t {f} p =
-    asking _ _ _ p λ long p.
-    asking _ _ _ p λ limited p.
-    asking _ _ _ p λ magic p.
-    passing _ _ p λ m read p.
-    passing _ _ p λ n read p.
-    asking _ _ _ p λ first p.
-    asking _ _ _ p λ second p.
-    let both : Both t (record { metaindex = m .handle; index = n .handle }) = record { metaindex = is-true _ first; index = is-true _ second } in
-    rw (pass-same p) at both
-
-pub indexed-placed : (t : List ℕ) {offset size : ℕ} → Indexed t offset size → endsBefore (length t) offset size ≡ true
-indexed-placed t i = rw (i .index) at (both-placed t (i .reads) .index)
-
-pub named-placed : (t : List ℕ) {offset size : ℕ} → Named t offset size → endsBefore (length t) offset size ≡ true
-named-placed t n = rw (n .metaindex) at (both-placed t (n .reads) .metaindex)

@@ -71,6 +71,21 @@ enum Located {
     Refused(u32),
 }
 
+// A part of a table, what of it lies there.
+fn part_of<'a>(table: &'a [u8], from: usize, len: usize) -> &'a [u8]
+    ensures { λ r. ⌜ now r ≡ part (now (table .entry)) from len ⌝ }
+{
+    let n = table.len();
+    if n < from {
+        return &table[n..];
+    }
+    if n - from < len {
+        return &table[from..];
+    }
+    let to = from + len;
+    &table[from..to]
+}
+
 // The block that an index entry's value names, in a table of len bytes.
 fn by_handle(len: usize, start: usize, value: &[u8]) -> Located
     ensures { λ r. ⌜ r ≡ byHandle len start (oneHandle (now (value .entry))) ⌝ }
@@ -150,8 +165,7 @@ fn place_index(
     requires { ⌜ Indexed (now table) «index_at» «index_size» × (length (now buf) ≡ 1032) ⌝ }
     ensures { λ r. ⌜ Sees (now (table .entry)) «index_at» «index_size» (placeIn which at) r ⌝ }
 {
-    let index_end = index_at + index_size;
-    let index = &table[index_at..index_end];
+    let index = part_of(table, index_at, index_size);
     locate(
         table.len(),
         index,
@@ -178,14 +192,11 @@ fn first_after(
             start: next,
             offset,
             size,
-        } => {
-            let to = offset + size;
-            hit(
-                next,
-                offset,
-                block_reader::block::first(&table[offset..to], buf),
-            )
-        }
+        } => hit(
+            next,
+            offset,
+            block_reader::block::first(part_of(table, offset, size), buf),
+        ),
     }
 }
 
@@ -220,8 +231,7 @@ fn seek_index(
     requires { ⌜ Indexed (now table) «index_at» «index_size» × (length (now buf) ≡ 1032) ⌝ }
     ensures { λ r. ⌜ Sees (now (table .entry)) «index_at» «index_size» (seekIn (record { word = now (word .entry); edition = edition })) r ⌝ }
 {
-    let index_end = index_at + index_size;
-    let index = &table[index_at..index_end];
+    let index = part_of(table, index_at, index_size);
     locate(
         table.len(),
         index,
@@ -242,11 +252,10 @@ fn seek_block(
     requires { ⌜ (endsBefore (length (now table)) offset size ≡ true) × (length (now buf) ≡ 1032) ⌝ }
     ensures { λ r. ⌜ Tells soughtOf (now (table .entry)) (Says (now (table .entry)) index offset size (seekIn (record { word = now (word .entry); edition = edition }))) r (now (buf .exit)) ⌝ }
 {
-    let to = offset + size;
     hit(
         index,
         offset,
-        block_reader::block::seek(&table[offset..to], word, edition, buf),
+        block_reader::block::seek(part_of(table, offset, size), word, edition, buf),
     )
 }
 
@@ -291,11 +300,11 @@ fn follow(table: &[u8], index_at: usize, index_size: usize, place: Place, buf: &
             offset,
             size,
         } => {
-            let to = offset + size;
+            let block = part_of(table, offset, size);
             let here = hit(
                 start,
                 offset,
-                block_reader::block::by_place(&table[offset..to], place.entry, Which::After, buf),
+                block_reader::block::by_place(block, place.entry, Which::After, buf),
             );
             or_later(here, table, index_at, index_size, start, buf)
         }
@@ -381,16 +390,14 @@ fn may_hold(table: &[u8], meta_at: usize, meta_size: usize, offset: usize, word:
     requires { ⌜ Named (now table) «meta_at» «meta_size» ⌝ }
     ensures { λ r. ⌜ HeldIs (now (table .entry)) offset (now (word .entry)) r ⌝ }
 {
-    let meta_end = meta_at + meta_size;
-    match table_block::table_block::bloom_handle(&table[meta_at..meta_end]) {
+    match table_block::table_block::bloom_handle(part_of(table, meta_at, meta_size)) {
         FilterRead::None => Held::May,
         FilterRead::Handle { offset: from, size } => {
             if footer::placed(table.len(), from, size) {} else {
                 return Held::Refused(8);
             }
-            let to = from + size;
             let hash = filter_block::filter::bloom_hash(word);
-            if filter_block::filter_block::may_match(&table[from..to], offset, hash) {
+            if filter_block::filter_block::may_match(part_of(table, from, size), offset, hash) {
                 Held::May
             } else {
                 Held::Not
@@ -509,15 +516,5 @@ pub fn lookup(table: &[u8], word: &[u8], edition: u64, key: &mut [u8]) -> Found
 pub fn value<'a>(table: &'a [u8], entry: Entry) -> &'a [u8]
     ensures { λ r. ⌜ now r ≡ part (now (table .entry)) (entry .«value_at») (entry .«value_len») ⌝ }
 {
-    let n = table.len();
-    let from = entry.value_at;
-    if n < from {
-        return &table[n..];
-    }
-    let len = entry.value_len;
-    if n - from < len {
-        return &table[from..];
-    }
-    let to = from + len;
-    &table[from..to]
+    part_of(table, entry.value_at, entry.value_len)
 }

@@ -1,5 +1,5 @@
 -- The end of a line. The invariant: the search goes on from its start.
-use Prim.Native.Nat.{_-_, _≤_, _<_}
+use Prim.Native.Nat.{_-_, _≤_}
 use lib.ListN.{length}
 use borrow.Author.Needs.{needs}
 use Rattle.lines.proofs.fields.line_end.Statement.{statement}

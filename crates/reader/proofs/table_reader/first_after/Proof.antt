@@ -7,7 +7,6 @@ use native.Mathlib.Omega.{arith}
 use lib.ListN.{length}
 use Rattle.codec.specs.Varint.{Handle}
 use Rattle.table.specs.Table.{endsBefore}
-use Rattle.reader.proofs.PassedLaws.{placed-within}
 use Rattle.reader.proofs.HitLaws.{contents-is, picks-first, asks-none, said-adds, hit-says}
 use Rattle.reader.proofs.LocateLaws.{sees-placed, sees-refused}
 use Rattle.reader.proofs.LaterLaws.{later-no-place, later-none, later-first}
@@ -50,17 +49,8 @@ enum-told-2 c = search needs
 enum-known-next : tie.Need-enum-known-next
 enum-known-next c = search needs
 
-add-to : tie.Need-add-to
-add-to c = omega (arith, placed-within _ _ _ (placed c))
-
-sub-first : tie.Need-sub-first
-sub-first c = search needs
-
-part-first-start : tie.Need-part-first-start
-part-first-start c = search needs
-
-part-first-end : tie.Need-part-first-end
-part-first-end c = omega (arith, placed-within _ _ _ (placed c))
+part-of-requires : tie.Need-part-of-requires
+part-of-requires c κs = search needs
 
 first-requires : tie.Need-first-requires
 first-requires c κs = search needs
@@ -68,7 +58,7 @@ first-requires c κs = search needs
 hit-requires : tie.Need-hit-requires
 hit-requires c κs =
     let k = c .before .before .before .before .before in
-    said-adds (T (pi k)) (block k) _ (c .before .before .first .ensures) (contents-is (T (pi k)) (block k .offset) (block k .size)) (placed k) (omega arith)
+    said-adds (T (pi k)) (block k) _ (c .before .before .first .ensures) (contents-is _ _ _ (c .before .before .before .before .part-of .ensures)) (placed k) (omega arith)
 
 same-length : tie.Need-same-length
 same-length c = search needs
@@ -102,7 +92,7 @@ returns-4 c =
     let k = c .before .before .before .before .before .before in
     let l = pi k in
     later-first (T l) (start l .pre .0) _ (l .place-index .ensures) (k .before .next .given .1)
-    (hit-says (T l) (block k) _ picks-first asks-none (placed k) (rw (contents-is (T l) (block k .offset) (block k .size)) at (c .before .before .before .first .ensures)) (omega arith) (omega arith) (c .hit .ensures))
+    (hit-says (T l) (block k) _ picks-first asks-none (placed k) (contents-is _ _ _ (c .before .before .before .before .before .part-of .ensures)) (c .before .before .before .first .ensures) (omega arith) (omega arith) (c .hit .ensures))
 
 pub first-after-spec : {M : Type 1} → statement M
 first-after-spec =
@@ -113,10 +103,7 @@ first-after-spec =
     enum-told
     enum-told-2
     enum-known-next
-    add-to
-    sub-first
-    part-first-start
-    part-first-end
+    part-of-requires
     first-requires
     hit-requires
     same-length

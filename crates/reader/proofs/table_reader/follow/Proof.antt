@@ -8,7 +8,6 @@ use lib.ListN.{length}
 use Rattle.codec.specs.Varint.{Handle}
 use Rattle.block_reader.specs.declared.block.Which.the-variants as WhichCase
 use Rattle.table.specs.Table.{endsBefore}
-use Rattle.reader.proofs.PassedLaws.{placed-within}
 use Rattle.reader.proofs.HitLaws.{contents-is, picks-place, asks-none, said-adds, hit-says}
 use Rattle.reader.proofs.LocateLaws.{sees-placed, sees-refused}
 use Rattle.reader.proofs.FollowLaws.{follow-none, follow-no-place, follow-block}
@@ -51,17 +50,8 @@ enum-told-2 c = search needs
 enum-known-start : tie.Need-enum-known-start
 enum-known-start c = search needs
 
-add-to : tie.Need-add-to
-add-to c = omega (arith, placed-within _ _ _ (placed c))
-
-sub-by-place : tie.Need-sub-by-place
-sub-by-place c = search needs
-
-part-by-place-start : tie.Need-part-by-place-start
-part-by-place-start c = search needs
-
-part-by-place-end : tie.Need-part-by-place-end
-part-by-place-end c = omega (arith, placed-within _ _ _ (placed c))
+part-of-requires : tie.Need-part-of-requires
+part-of-requires c κs = search needs
 
 by-place-requires : tie.Need-by-place-requires
 by-place-requires c κs = search needs
@@ -69,7 +59,7 @@ by-place-requires c κs = search needs
 hit-requires : tie.Need-hit-requires
 hit-requires c κs =
     let k = c .before .before .before .before .before in
-    said-adds (T (pi k)) (block k) _ (c .before .before .by-place .ensures) (contents-is (T (pi k)) (block k .offset) (block k .size)) (placed k) (omega arith)
+    said-adds (T (pi k)) (block k) _ (c .before .before .by-place .ensures) (contents-is _ _ _ (c .before .before .before .before .part-of .ensures)) (placed k) (omega arith)
 
 or-later-requires : tie.Need-or-later-requires
 or-later-requires c κs = search needs
@@ -105,8 +95,7 @@ returns-4 : tie.Need-returns-4
 returns-4 c =
     let k = c .before .before .before .before .before .before .before .before .before .before in
     let l = pi k in
-    let said = c .before .before .before .before .before .before .before .by-place .ensures in
-    let w = hit-says (T l) (block k) (k .before .start .given .0 .0) (picks-place WhichCase.After (start l .args .place .entry)) asks-none (placed k) (rw (contents-is (T l) (block k .offset) (block k .size)) at said) (omega arith) (omega arith) (c .before .before .before .before .hit .ensures) in
+    let w = hit-says (T l) (block k) (k .before .start .given .0 .0) (picks-place WhichCase.After (start l .args .place .entry)) asks-none (placed k) (contents-is _ _ _ (c .before .before .before .before .before .before .before .before .before .part-of .ensures)) (c .before .before .before .before .before .before .before .by-place .ensures) (omega arith) (omega arith) (c .before .before .before .before .hit .ensures) in
     follow-block (T l) (start l .pre .0) (start l .args .place .index) (start l .args .place .entry) (l .place-index .ensures) (k .before .start .given .1) w (c .before .before .or-later .ensures (w .answer) (w .shown) (w .holds) (w .inside))
 
 pub follow-spec : {M : Type 1} → statement M
@@ -118,10 +107,7 @@ follow-spec =
     enum-told
     enum-told-2
     enum-known-start
-    add-to
-    sub-by-place
-    part-by-place-start
-    part-by-place-end
+    part-of-requires
     by-place-requires
     hit-requires
     or-later-requires

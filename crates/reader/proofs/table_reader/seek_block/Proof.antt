@@ -1,23 +1,13 @@
 -- `reader::table_reader::seek_block` meets its contract.
 use mathlib.Core.Path.{_∙_}
 use native.Mathlib.Omega.{arith}
-use Rattle.reader.proofs.PassedLaws.{placed-within}
 use Rattle.reader.proofs.HitLaws.{contents-is, picks-seek, asks-order, said-adds, hit-says}
 use borrow.Author.Needs.{needs}
 use Rattle.reader.proofs.table_reader.seek_block.Statement.{statement}
 use Rattle.reader.proofs.table_reader.seek_block.Tie as tie
 
-add-to : tie.Need-add-to
-add-to c = omega (arith, placed-within _ _ _ (c .before .before .before .pre .0))
-
-sub-seek : tie.Need-sub-seek
-sub-seek c = search needs
-
-part-seek-start : tie.Need-part-seek-start
-part-seek-start c = search needs
-
-part-seek-end : tie.Need-part-seek-end
-part-seek-end c = omega (arith, placed-within _ _ _ (c .before .before .before .pre .0))
+part-of-requires : tie.Need-part-of-requires
+part-of-requires c κs = search needs
 
 seek-requires : tie.Need-seek-requires
 seek-requires c κs = search needs
@@ -25,7 +15,7 @@ seek-requires c κs = search needs
 hit-requires : tie.Need-hit-requires
 hit-requires c κs =
     let b = c .before .before .before .before .before .before .before .before in
-    said-adds (b .args .table .now) (record { offset = b .args .offset; size = b .args .size }) _ (c .before .before .seek .ensures) (contents-is (b .args .table .now) (b .args .offset) (b .args .size)) (b .pre .0) (omega (arith, b .good))
+    said-adds (b .args .table .now) (record { offset = b .args .offset; size = b .args .size }) _ (c .before .before .seek .ensures) (contents-is _ _ _ (c .before .before .before .before .part-of .ensures)) (b .pre .0) (omega (arith, b .good))
 
 same-length : tie.Need-same-length
 same-length c = search needs
@@ -34,16 +24,13 @@ returns : tie.Need-returns
 returns c =
     let b = c .before .before .before .before .before .before .before .before .before in
     hit-says (b .args .table .now) (record { offset = b .args .offset; size = b .args .size }) (b .args .index) (picks-seek _) asks-order (b .pre .0)
-    (rw (contents-is (b .args .table .now) (b .args .offset) (b .args .size)) at (c .before .before .before .seek .ensures)) (b .pre .1) (c .before .before .before .seek .kept .1 .1 .1 .0 ∙ b .pre .1) (c .hit .ensures)
+    (contents-is _ _ _ (c .before .before .before .before .before .part-of .ensures)) (c .before .before .before .seek .ensures) (b .pre .1) (c .before .before .before .seek .kept .1 .1 .1 .0 ∙ b .pre .1) (c .hit .ensures)
 
 pub seek-block-spec : {M : Type 1} → statement M
 seek-block-spec =
     tie.close
     (tie.spec
-    add-to
-    sub-seek
-    part-seek-start
-    part-seek-end
+    part-of-requires
     seek-requires
     hit-requires
     same-length

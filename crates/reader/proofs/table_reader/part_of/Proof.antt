@@ -1,9 +1,9 @@
--- `reader::table_reader::value` meets its contract.
+-- `reader::table_reader::part_of` meets its contract.
 use Rattle.codec.proofs.BytesLaws.{part-between}
-use Rattle.reader.proofs.CallLaws.{value-past, value-rest}
+use Rattle.reader.proofs.CallLaws.{part-past, part-rest}
 use borrow.Author.Needs.{needs}
-use Rattle.reader.proofs.table_reader.value.Statement.{statement}
-use Rattle.reader.proofs.table_reader.value.Tie as tie
+use Rattle.reader.proofs.table_reader.part_of.Statement.{statement}
+use Rattle.reader.proofs.table_reader.part_of.Tie as tie
 
 sub-result : tie.Need-sub-result
 sub-result c = search needs
@@ -15,7 +15,7 @@ part-result-end : tie.Need-part-result-end
 part-result-end c = search needs
 
 returns : tie.Need-returns
-returns c = value-past _ _ _ (c .before .if1 .taken)
+returns c = part-past _ _ _ (c .before .if1 .taken)
 
 sub-result-2 : tie.Need-sub-result-2
 sub-result-2 c = search needs
@@ -27,7 +27,7 @@ part-result-end-2 : tie.Need-part-result-end-2
 part-result-end-2 c = search needs
 
 returns-2 : tie.Need-returns-2
-returns-2 c = value-rest _ _ _ (c .before .if2 .taken)
+returns-2 c = part-rest _ _ _ (c .before .if2 .taken)
 
 add-to : tie.Need-add-to
 add-to c = search needs
@@ -44,8 +44,8 @@ part-result-end-3 c = search needs
 returns-3 : tie.Need-returns-3
 returns-3 c = part-between _ _ _
 
-pub value-spec : {M : Type 1} → statement M
-value-spec =
+pub part-of-spec : {M : Type 1} → statement M
+part-of-spec =
     tie.close
     (tie.spec
     sub-result
