@@ -8,7 +8,8 @@ import os, random, struct
 from rules import *
 
 TOP = os.path.join(os.path.dirname(os.path.abspath(__file__)), '..', 'crates', 'rebuild')
-MOST_BYTES, MOST_NUMBERS = 140000, 35000
+# how long the program's arrays are: the input, each run of bytes, each run of numbers
+MOST_INPUT, MOST_BYTES, MOST_NUMBERS = 200000, 140000, 35000
 lines, answers = [], []
 
 # ---- the commands
@@ -225,8 +226,19 @@ def rig(interval, block_size, bits, lengths, slack=13):
 def size_of(interval, block_size, bits, additions):
     return len(write_table(interval, block_size, bits or 0, [(internal(w, e, k), v) for w, e, k, v in additions]))
 
+def taken(additions):
+    """Those within the limits and above the last one."""
+    keys, out = [], []
+    for x in additions:
+        key = internal(*x[:3]) if addition_fits(*x) else None
+        if key and (not keys or below(keys[-1], key)):
+            keys.append(key)
+            out.append(x)
+    return out
+
 def whole(interval, block_size, bits, lengths, additions, each=True, want='any'):
-    """A table from start to end."""
+    """A table from start to end; without lengths, in a room with some bytes left."""
+    lengths = size_of(interval, block_size, bits, taken(additions)) + 50 if lengths is None else lengths
     return rig(interval, block_size, bits, lengths).all(additions, each).finish(want).sums()
 
 def exact(interval, block_size, bits, additions):
@@ -359,7 +371,7 @@ wide = [(b'\0', 0, 0, b''), (b'a', last, 1, b'v'), (b'a', 2 ** 56, 1, b'v'), (b'
         (b'', 5, 1, b''), (b'd', 5, 0, b'w'), (b'\xff' * 1024, last, 1, b''), (b'\xff' * 1024, last, 0, b''), (b'\xff' * 1024, 0, 0, b''), (b'\xff' * 1024, 0, 1, b'')]
 for bits in (None, 10):
     for size in (8, 65536):
-        whole(16, size, bits, 50000, wide, False)
+        whole(16, size, bits, None, wide, False)
 
 # the same word and edition with another kind; the first key after a cut
 for size in (8, 65536):
@@ -462,11 +474,12 @@ for interval in (1, 2, 16, 1024):
         value = {1024: 190, 4096: 900, 65536: 9300}.get(size, 3)
         additions = [(b'key%02d' % i, 5, 1, bytes([i]) * (value + i)) for i in range(9)]
         for bits in (None, 10):
-            whole(interval, size, bits, size_of(interval, size, bits, additions) + 50, additions, size <= 64)
+            whole(interval, size, bits, None, additions, size <= 64)
 # as many entries as the largest interval, and one more
-r = rig(1024, 65536, 10, 20000).all([(struct.pack('>H', i), 1, 1, b'') for i in range(1024)], False).sums().tell()
+many = [(struct.pack('>H', i), 1, 1, b'') for i in range(1025)]
+r = rig(1024, 65536, 10, size_of(1024, 65536, 10, many)).all(many[:1024], False).sums().tell()
 assert len(r.b.packed(r.b.open)[1]) == 1
-r.add(b'\4\0', 1).sums().tell().finish().sums()
+r.add(*many[1024], want=None).sums().tell().finish(r.room).sums()
 
 # versions of a word across a cut, deletions, words of ff
 versions = [(b'v', 9 - i, i % 2, b'%d' % i * (i % 3)) for i in range(9)]
@@ -485,8 +498,8 @@ for bits in (None, 1, 10):
     for sizes_in in ((32768, 0, 32768), (0, 5000, 0, 5000, 10), (2000, 2000, 2000), (2027, 0, 0), (2026, 0, 0), (4075, 0, 4000), (6000,), (10, 32768)):
         additions = [(b'f%d' % i, 5, 1, bytes([i + 1]) * n) for i, n in enumerate(sizes_in)]
         for size in (8, 65536):
-            whole(16, size, bits, 70000 if 32768 in sizes_in else 18000, additions, False)
-        whole(2, 1024, bits, 70000 if 32768 in sizes_in else 18000, additions, False)
+            whole(16, size, bits, None, additions, False)
+        whole(2, 1024, bits, None, additions, False)
 # a block of more than 65,536 bytes, then another
 big = [(b'b%d' % i, 5, 1, bytes([i + 65]) * 32768) for i in range(4)]
 for bits in (None, 10):
@@ -531,6 +544,7 @@ for turn in range(110):
         r.finish(6).add(*additions[-1], want=6)
 
 os.makedirs(TOP, exist_ok=True)
+assert sum(len(l) + 1 for l in lines) <= MOST_INPUT
 open(os.path.join(TOP, 'stdin'), 'w').write('\n'.join(lines) + '\n')
 open(os.path.join(TOP, 'stdout'), 'w').write('\n'.join(answers) + '\n')
 print(len(lines), 'lines,', os.path.getsize(os.path.join(TOP, 'stdin')), 'bytes;', os.path.getsize(os.path.join(TOP, 'stdout')), 'bytes of answers;', ', '.join('%s %d' % (c, sum(l[0] == c for l in lines)) for c in sorted({l[0] for l in lines})))

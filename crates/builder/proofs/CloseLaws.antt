@@ -23,7 +23,7 @@ use Rattle.block_builder.specs.Builder as Blocks
 use Rattle.block_builder.specs.Builder.{countIn, newBuilder, builderAfter, builderWith, addable, countable, AddedIs, Counting}
 use Rattle.block_builder.proofs.BuilderLaws.{stands-more, stands-finish, added-kept}
 use Rattle.block_builder.proofs.BuilderCode.{addable-room, room-mark}
-use Rattle.filters.specs.FilterBlock.{Filtering, Filters, noFilters, wait, filtersUpTo, madeBytes, starts}
+use Rattle.filters.specs.FilterBlock.{Filtering, Filters, noFilters, filtersUpTo, madeBytes, starts}
 use Rattle.filter_block.specs.declared.filter_block.Made.{Made}
 use Rattle.filters.specs.FilterCount.{FilterCount, filterCountOf}
 use Rattle.filter_block.specs.Choice.{choiceOf}
@@ -32,10 +32,10 @@ use Rattle.filters.proofs.FilterBlockLaws.{made-append, starts-length}
 use Rattle.table.specs.Options.{Options, indexInterval, tableLimit}
 use Rattle.table.specs.Build.{Chunk, Building, pairOf, framed, chunkBytes, written, endOf, indexPairs, filtersOf, close}
 use Rattle.table.specs.Runs.{Runs, filtersNow, entriesOf, restartsIn, held, between, overlay, overlaid, FitsRoom}
-use Rattle.table.specs.Counts.{Counts, countsOf, countClose, handleSize}
+use Rattle.table.specs.Counts.{Counts, countsOf, countClose}
 use Rattle.table.proofs.FrameLaws.{framed-length}
 use Rattle.table.proofs.StepLaws.{written-append, index-append, filters-append}
-use Rattle.table.proofs.CountsLaws.{chunk-size, counts-close}
+use Rattle.table.proofs.CountsLaws.{wait-none, handle-length, chunk-size, counts-close}
 use Rattle.builder.specs.declared.table_builder.Builder.{Builder}
 use Rattle.builder.specs.State.{optionsOf, countsIn}
 use Rattle.builder.specs.Steps.{Small, Whole, openSize, endsAt, closedState}
@@ -285,10 +285,6 @@ module _ {o : Options} {b : Building} {s : Builder} (h : Counted o b s) (m : Sma
   unfolding between held restartsIn
   index-restarts-of = ap (restartsOf (indexInterval o) (indexInterval o) [] 0) index-is
 
-  handle-size : length handle ≡ handleSize (s .written) (openSize s)
-  unfolding handleBytes handleSize
-  handle-size = simp length-append
-
   pub closed-index : (x y : List ℕ) {x′ y′ : List ℕ} {a : Added} → AddedIs (s .indexed) 0 x x′ y y′ key handle a
       → x ≡ overlay (between o b .index) x → y ≡ overlay (between o b .indexRestarts) y
       → length (between o d .index) ≤ length x → length (between o d .indexRestarts) ≤ length y → length (between o b .index) < 2 ^ 32
@@ -296,7 +292,7 @@ module _ {o : Options} {b : Building} {s : Builder} (h : Counted o b s) (m : Sma
   closed-index x y {x′} {y′} {a} g p q lx ly u =
       let st = index-stands h x y p q in
       let after = lens closed-counted in
-      let z : builderAfter (s .indexed) key (length handle) ≡ closedState s key .indexed = unfold closedState in ap (builderAfter (s .indexed) key) handle-size in
+      let z : builderAfter (s .indexed) key (length handle) ≡ closedState s key .indexed = unfold closedState in ap (builderAfter (s .indexed) key) (handle-length (s .written) (openSize s)) in
       let zb = ap (λ (c : BlockBuilder). c .bytes) z in
       let zr = ap (λ (c : BlockBuilder). c .restarts) z in
       let fits : a .fits ≡ true =
@@ -314,9 +310,6 @@ module _ {o : Options} {b : Building} {s : Builder} (h : Counted o b s) (m : Sma
       wait-none _
       ∙ filters-append o 0 noFilters (b .closed) (chunk ∷ [])
       ∙ ap₂ (λ (at n : ℕ). filtersUpTo (at + n + 5) (filtersNow o b)) (zero-add (length (written o (b .closed))) ∙ sym (written-is h)) (sym (open-size h))
-    where
-      wait-none : (f : Filters) → wait [] f ≡ f
-      wait-none f = unfold wait in rw append-nil
 
   abbrev groups : List (List ℕ)
   groups = groupsUpTo (length (filtersNow o b .made)) (endsAt s / 2048) (filtersNow o b .waiting)

@@ -23,7 +23,7 @@ use Rattle.table.specs.Sizes.{countsBegin, countsAdd, sizeFinished}
 use Rattle.table.proofs.FrameLaws.{framed-length}
 use Rattle.table.proofs.StepLaws.{written-append, index-append, filters-append, table-length, last-none, last-some}
 
-wait-none : (f : Filters) → wait [] f ≡ f
+pub wait-none : (f : Filters) → wait [] f ≡ f
 unfolding wait
 wait-none f = rw append-nil
 
@@ -31,7 +31,7 @@ pub counts-begin : countsBegin
 unfolding countsOf noCounts begin filtersNow written indexPairs filtersOf
 counts-begin o = rw (count-none (o .interval), count-none (indexInterval o), wait-none noFilters, count-no-filters (o .filtering))
 
-handle-length : (offset size : ℕ) → length (handleBytes (record { offset = offset; size = size })) ≡ handleSize offset size
+pub handle-length : (offset size : ℕ) → length (handleBytes (record { offset = offset; size = size })) ≡ handleSize offset size
 unfolding handleBytes handleSize
 handle-length offset size = simp length-append
 
