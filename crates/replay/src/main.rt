@@ -1,70 +1,7 @@
-// Replays a list of cases: each line of standard input is a command and its fields, and each answer is a line. The list and
-// what has to be answered are made by tools/replay_list.py.
-ghost use Prim.Native.Nat.{_<_};
-ghost use lib.ListN.{length};
-
-mod blocks;
-mod filters;
-mod keyed;
-mod tables;
-
-use lines::fields;
-use lines::show;
-
-// Where the next line starts, and how long the loaded bytes are.
-struct Answered {
-    next: usize,
-    len: usize,
-}
-
-// Answers a command, and says how long the loaded bytes then are.
-fn answer(s: &[u8], from: usize, end: usize, op: u8, block: &mut [u8], len: usize) -> usize {
-    if keyed::knows(op) {
-        keyed::answer(s, from, op);
-        return len;
-    }
-    if filters::knows(op) {
-        filters::answer(s, from, end, op);
-        return len;
-    }
-    if tables::knows(op) {
-        tables::answer(s, from, op, block, len);
-        return len;
-    }
-    blocks::answer(s, from, end, op, block, len)
-}
-
-// Answers the line at a place.
-fn line(s: &[u8], at: usize, block: &mut [u8], len: usize) -> Answered
-    requires { ⌜ at < length (now s) ⌝ }
-    ensures { λ r. ⌜ at < r .next ⌝ }
-{
-    let op = s[at];
-    let end = fields::line_end(s, at);
-    show::letter(op);
-    let from = fields::after(at);
-    let loaded = answer(s, from, end, op, block, len);
-    show::say(b"\n");
-    Answered {
-        next: end,
-        len: loaded,
-    }
-}
-
-// Answers line after line.
-fn lines(s: &[u8], block: &mut [u8]) {
-    let mut len: usize = 0;
-    let mut at: usize = 0;
-    while at < s.len() {
-        let r = line(s, at, block, len);
-        at = r.next;
-        len = r.len;
-    }
-}
-
+// Replays a list of cases. The list and what has to be answered are made by tools/replay_list.py.
 fn main() {
     let mut input = [0u8; 480000];
     let mut block = [0u8; 65536];
     let n = io::read_full(0, &mut input);
-    lines(&input[0..n], &mut block);
+    cases::all::lines(&input[0..n], &mut block);
 }

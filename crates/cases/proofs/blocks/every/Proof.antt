@@ -2,8 +2,8 @@
 use Prim.Native.Nat.{_-_}
 use lib.ListN.{length}
 use borrow.Author.Needs.{needs}
-use Rattle.replay.proofs.blocks.every.Statement.{statement}
-use Rattle.replay.proofs.blocks.every.Tie as tie
+use Rattle.cases.proofs.blocks.every.Statement.{statement}
+use Rattle.cases.proofs.blocks.every.Tie as tie
 
 abbrev Inv-loop : tie.InvT-loop
 Inv-loop b at₀ at = Unit {0}

@@ -3,8 +3,8 @@ use Prim.Native.Nat.{_-_}
 use mathlib.Core.Path.{_≡_}
 use lib.ListN.{length}
 use borrow.Author.Needs.{needs}
-use Rattle.replay.proofs.tables.each_sealed.Statement.{statement}
-use Rattle.replay.proofs.tables.each_sealed.Tie as tie
+use Rattle.cases.proofs.tables.each_sealed.Statement.{statement}
+use Rattle.cases.proofs.tables.each_sealed.Tie as tie
 
 abbrev Inv-loop : tie.InvT-loop
 Inv-loop out₀ len end bits part word edition i₀ out i = length out ≡ length out₀

@@ -1,8 +1,8 @@
 -- The hashes of the words of a line: at most as many as the list has room for.
 use Prim.Native.Nat.{_-_}
 use borrow.Author.Needs.{needs}
-use Rattle.replay.proofs.filters.hashes.Statement.{statement}
-use Rattle.replay.proofs.filters.hashes.Tie as tie
+use Rattle.cases.proofs.filters.hashes.Statement.{statement}
+use Rattle.cases.proofs.filters.hashes.Tie as tie
 
 abbrev Inv-loop : tie.InvT-loop
 Inv-loop s at end all₀ n₀ i₀ all n i = Unit {0}

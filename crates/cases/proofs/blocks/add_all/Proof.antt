@@ -3,8 +3,8 @@ use Prim.Native.Nat.{_-_}
 use mathlib.Core.Path.{_≡_}
 use lib.ListN.{length}
 use borrow.Author.Needs.{needs}
-use Rattle.replay.proofs.blocks.add_all.Statement.{statement}
-use Rattle.replay.proofs.blocks.add_all.Tie as tie
+use Rattle.cases.proofs.blocks.add_all.Statement.{statement}
+use Rattle.cases.proofs.blocks.add_all.Tie as tie
 
 abbrev Inv-loop : tie.InvT-loop
 Inv-loop s at end interval out₀ restarts₀ b₀ i₀ n₀ out restarts b i n = (length out ≡ length out₀) × (length restarts ≡ length restarts₀)

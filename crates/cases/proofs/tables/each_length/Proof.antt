@@ -2,8 +2,8 @@
 use Prim.Native.Nat.{_-_}
 use lib.ListN.{length}
 use borrow.Author.Needs.{needs}
-use Rattle.replay.proofs.tables.each_length.Statement.{statement}
-use Rattle.replay.proofs.tables.each_length.Tie as tie
+use Rattle.cases.proofs.tables.each_length.Statement.{statement}
+use Rattle.cases.proofs.tables.each_length.Tie as tie
 
 abbrev Inv-loop : tie.InvT-loop
 Inv-loop t word edition n₀ n = Unit {0}

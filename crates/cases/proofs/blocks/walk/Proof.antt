@@ -1,14 +1,14 @@
 -- A walk of so many steps at most.
 use Prim.Native.Nat.{_-_}
 use borrow.Author.Needs.{needs}
-use Rattle.replay.proofs.tables.walk.Statement.{statement}
-use Rattle.replay.proofs.tables.walk.Tie as tie
+use Rattle.cases.proofs.blocks.walk.Statement.{statement}
+use Rattle.cases.proofs.blocks.walk.Tie as tie
 
 abbrev Inv-loop : tie.InvT-loop
-Inv-loop t w₀ n₀ t4 w n = Unit {0}
+Inv-loop b w₀ n₀ t4 w n = Unit {0}
 
 abbrev μ-loop : tie.MeasureT-loop
-μ-loop t w₀ n₀ t4 w n = 65536 - n
+μ-loop b w₀ n₀ t4 w n = 65536 - n
 
 walk-first-requires : tie.Need-walk-first-requires Inv-loop μ-loop
 walk-first-requires c κs = search needs

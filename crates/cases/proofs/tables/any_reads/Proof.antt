@@ -1,8 +1,8 @@
 -- Reads of any bytes, so many steps at most.
 use Prim.Native.Nat.{_-_}
 use borrow.Author.Needs.{needs}
-use Rattle.replay.proofs.tables.any_reads.Statement.{statement}
-use Rattle.replay.proofs.tables.any_reads.Tie as tie
+use Rattle.cases.proofs.tables.any_reads.Statement.{statement}
+use Rattle.cases.proofs.tables.any_reads.Tie as tie
 
 abbrev Inv-loop : tie.InvT-loop
 Inv-loop t word edition w₀ n₀ w n = Unit {0}

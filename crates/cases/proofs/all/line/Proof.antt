@@ -1,7 +1,7 @@
 -- The next line starts further on.
 use borrow.Author.Needs.{needs}
-use Rattle.replay.proofs.line.Statement.{statement}
-use Rattle.replay.proofs.line.Tie as tie
+use Rattle.cases.proofs.all.line.Statement.{statement}
+use Rattle.cases.proofs.all.line.Tie as tie
 
 shared-slice-read-op : tie.Need-shared-slice-read-op
 shared-slice-read-op c = search needs

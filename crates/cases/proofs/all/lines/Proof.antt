@@ -3,8 +3,8 @@ use Prim.Native.Nat.{_-_}
 use mathlib.Core.Path.{_≡_}
 use lib.ListN.{length}
 use borrow.Author.Needs.{needs}
-use Rattle.replay.proofs.lines.Statement.{statement}
-use Rattle.replay.proofs.lines.Tie as tie
+use Rattle.cases.proofs.all.lines.Statement.{statement}
+use Rattle.cases.proofs.all.lines.Tie as tie
 
 abbrev Inv-loop : tie.InvT-loop
 Inv-loop s block₀ len₀ at₀ block len at = length block ≡ length block₀
