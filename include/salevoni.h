@@ -79,6 +79,102 @@ salevoni_entry salevoni_lookup(const uint8_t *table, size_t table_len, const uin
 salevoni_entry salevoni_step(const uint8_t *table, size_t table_len, size_t index, size_t entry, uint8_t *key,
                              size_t key_size);
 
+/* ---- building ---- */
+
+/* A block being built: the interval of restarts, the entry bytes, the restarts, the entries since the last restart, and the
+   last key, which is the first len bytes of last. */
+typedef struct salevoni_block {
+    size_t interval;
+    size_t bytes;
+    size_t restarts;
+    size_t since;
+    size_t len;
+    uint8_t last[SALEVONI_KEY_MAX];
+} salevoni_block;
+
+/* The lengths of the seven runs, in elements. */
+typedef struct salevoni_lengths {
+    size_t out;
+    size_t index;
+    size_t filters;
+    size_t restarts;
+    size_t index_restarts;
+    size_t offsets;
+    size_t hashes;
+} salevoni_lengths;
+
+/* A table being built. It goes into each call by value and comes back; filter is 0 for none, else a Bloom filter of so many
+   bits per key; finished is 0 until finish. */
+typedef struct salevoni_state {
+    size_t block_size;
+    size_t interval;
+    uint32_t filter;
+    uint32_t bits;
+    salevoni_lengths lengths;
+    size_t written;
+    salevoni_block pending;
+    salevoni_block indexed;
+    size_t filtered;
+    size_t made;
+    size_t waiting;
+    uint32_t finished;
+} salevoni_state;
+
+/* What a call of the builder answers: 0 or the refusal's number; after finish the table's size, else 0; and the state to go on
+   with, after a refusal the one that went in. */
+typedef struct salevoni_built {
+    uint32_t answer;
+    size_t size;
+    salevoni_state state;
+} salevoni_built;
+
+/* The seven runs of a table being built, lent to each call: the output, of at least 97 bytes (123 with a filter); index and
+   filters, each as long as the output or, if that is less, SALEVONI_TABLE_MAX bytes; and restarts, index_restarts, offsets and
+   hashes, each of a quarter as many numbers. The table is the first size bytes of the output after finish. */
+typedef struct salevoni_runs {
+    uint8_t *out;
+    size_t out_len;
+    uint8_t *index;
+    size_t index_len;
+    uint8_t *filters;
+    size_t filters_len;
+    uint32_t *restarts;
+    size_t restarts_len;
+    uint32_t *index_restarts;
+    size_t index_restarts_len;
+    uint32_t *offsets;
+    size_t offsets_len;
+    uint32_t *hashes;
+    size_t hashes_len;
+} salevoni_runs;
+
+/* The seven runs as the arguments of a call: salevoni_add(state, SALEVONI_RUNS(runs), word, ..) */
+#define SALEVONI_RUNS(r)                                                                                                     \
+    (r).out, (r).out_len, (r).index, (r).index_len, (r).filters, (r).filters_len, (r).restarts, (r).restarts_len,            \
+        (r).index_restarts, (r).index_restarts_len, (r).offsets, (r).offsets_len, (r).hashes, (r).hashes_len
+
+/* Starts a table: block_size 8 to 65,536, interval 1 to 1,024, filter 0 for none, else bits 1 to 64 per key. Refuses with 1,
+   then 2 if a run is too short. Nothing is written. After a refusal the state is of no use. */
+salevoni_built salevoni_start(size_t block_size, size_t interval, uint32_t filter, uint32_t bits, uint8_t *out, size_t out_len,
+                              uint8_t *index, size_t index_len, uint8_t *filters, size_t filters_len, uint32_t *restarts,
+                              size_t restarts_len, uint32_t *index_restarts, size_t index_restarts_len, uint32_t *offsets,
+                              size_t offsets_len, uint32_t *hashes, size_t hashes_len);
+
+/* Adds an entry, above all entries before: a word of 1 to 1,024 bytes, an edition below 2^56, kind 1 (a value) or 0 (a
+   deletion), and a value of up to 32,768 bytes. Of one word the larger edition comes first. Refuses with 6, 2, 3, 4, 5. */
+salevoni_built salevoni_add(salevoni_state state, uint8_t *out, size_t out_len, uint8_t *index, size_t index_len,
+                            uint8_t *filters, size_t filters_len, uint32_t *restarts, size_t restarts_len,
+                            uint32_t *index_restarts, size_t index_restarts_len, uint32_t *offsets, size_t offsets_len,
+                            uint32_t *hashes, size_t hashes_len, const uint8_t *word, size_t word_len, uint64_t edition,
+                            uint8_t kind, const uint8_t *value, size_t value_len);
+
+/* Writes all that is left of the table: after it the table is the first size bytes of out, and no call adds to it. Refuses with
+   6, 2. */
+salevoni_built salevoni_finish(salevoni_state state, uint8_t *out, size_t out_len, uint8_t *index, size_t index_len,
+                               uint8_t *filters, size_t filters_len, uint32_t *restarts, size_t restarts_len,
+                               uint32_t *index_restarts, size_t index_restarts_len, uint32_t *offsets, size_t offsets_len,
+                               uint32_t *hashes, size_t hashes_len);
+
 #ifdef __cplusplus
 }
 #endif

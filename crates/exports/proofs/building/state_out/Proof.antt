@@ -1,0 +1,39 @@
+-- `exports::building::state_out` meets its contract.
+use Rattle.exports.specs.Building.{stateOut}
+use borrow.Author.Needs.{needs}
+use Rattle.exports.proofs.building.state_out.Statement.{statement}
+use Rattle.exports.proofs.building.state_out.Tie as tie
+
+filter-number-requires : tie.Need-filter-number-requires
+filter-number-requires c κs = search needs
+
+filter-bits-requires : tie.Need-filter-bits-requires
+filter-bits-requires c κs = search needs
+
+lengths-out-requires : tie.Need-lengths-out-requires
+lengths-out-requires c κs = search needs
+
+block-out-requires : tie.Need-block-out-requires
+block-out-requires c κs = search needs
+
+block-out-requires-2 : tie.Need-block-out-requires-2
+block-out-requires-2 c κs = search needs
+
+flag-requires : tie.Need-flag-requires
+flag-requires c κs = search needs
+
+returns : tie.Need-returns
+unfolding stateOut
+returns c = cc
+
+pub state-out-spec : {M : Type 1} → statement M
+state-out-spec =
+    tie.close
+    (tie.spec
+    filter-number-requires
+    filter-bits-requires
+    lengths-out-requires
+    block-out-requires
+    block-out-requires-2
+    flag-requires
+    returns)

@@ -1,0 +1,156 @@
+-- The builder's state and its answers, in numbers.
+use Prim.Native.Nat.{ℕ}
+use mathlib.Core.Path.{_≡_}
+use mathlib.Core.Bool.{cond, not}
+use lib.Dec.{eqb}
+use Rattle.block_builder.specs.declared.block_builder.BlockBuilder.{BlockBuilder}
+use Rattle.filter_block.specs.declared.filter.Filter as FilterEnum
+use Rattle.filter_block.specs.declared.filter.Filter.the-variants as FilterCase
+use Rattle.table.specs.Options.{Addition}
+use Rattle.table.specs.Runs.{Runs}
+use Rattle.builder.specs.Answers.{StartedIs, AddedIs, FinishedIs}
+use Rattle.builder.specs.declared.table_builder.Added.{Added}
+use Rattle.builder.specs.declared.table_builder.Answer.{Answer}
+use Rattle.builder.specs.declared.table_builder.Answer.the-variants as AnswerCase
+use Rattle.builder.specs.declared.table_builder.Builder.{Builder}
+use Rattle.builder.specs.declared.table_builder.Finished.{Finished}
+use Rattle.builder.specs.declared.table_builder.Lengths.{Lengths}
+use Rattle.builder.specs.declared.table_builder.Options.{Options}
+use Rattle.builder.specs.declared.table_builder.Outcome.{Outcome}
+use Rattle.builder.specs.declared.table_builder.Outcome.the-variants as OutcomeCase
+use Rattle.builder.specs.declared.table_builder.Started.{Started}
+use Rattle.exports.specs.declared.building.SalevoniBlock.{SalevoniBlock}
+use Rattle.exports.specs.declared.building.SalevoniLengths.{SalevoniLengths}
+use Rattle.exports.specs.declared.building.SalevoniState.{SalevoniState}
+use Rattle.exports.specs.declared.building.SalevoniBuilt.{SalevoniBuilt}
+
+-- ---- the state
+
+-- a filter choice: 0 is none, any other number so many bits per key
+abbrev pub filterIn : ℕ → ℕ → FilterEnum.Filter
+filterIn n bits = cond (eqb n 0) FilterCase.None (FilterCase.Bits bits)
+
+-- the number of a choice
+abbrev pub filterNumber : FilterEnum.Filter → ℕ
+filterNumber FilterCase.None = 0
+filterNumber (FilterCase.Bits b) = 1
+
+-- its bits per key
+abbrev pub filterBits : FilterEnum.Filter → ℕ
+filterBits FilterCase.None = 0
+filterBits (FilterCase.Bits b) = b
+
+-- a block being built
+abbrev pub blockIn : SalevoniBlock → BlockBuilder
+blockIn b =
+    record { interval = b .interval; bytes = b .bytes; restarts = b .restarts; since = b .since; len = b .len; last = b .last }
+
+-- and back
+abbrev pub blockOut : BlockBuilder → SalevoniBlock
+blockOut b =
+    record { interval = b .interval; bytes = b .bytes; restarts = b .restarts; since = b .since; len = b .len; last = b .last }
+
+-- seven lengths
+abbrev pub lengthsIn : SalevoniLengths → Lengths
+lengthsIn l =
+    record {
+      out = l .out;
+      index = l .index;
+      filters = l .filters;
+      restarts = l .restarts;
+      «index_restarts» = l .«index_restarts»;
+      offsets = l .offsets;
+      hashes = l .hashes;
+    }
+
+-- and back
+abbrev pub lengthsOut : Lengths → SalevoniLengths
+lengthsOut l =
+    record {
+      out = l .out;
+      index = l .index;
+      filters = l .filters;
+      restarts = l .restarts;
+      «index_restarts» = l .«index_restarts»;
+      offsets = l .offsets;
+      hashes = l .hashes;
+    }
+
+-- the builder of a state
+unfoldable pub builderIn : SalevoniState → Builder
+builderIn s =
+    record {
+      options = record { «block_size» = s .«block_size»; interval = s .interval; filter = filterIn (s .filter) (s .bits) };
+      lengths = lengthsIn (s .lengths);
+      written = s .written;
+      pending = blockIn (s .pending);
+      indexed = blockIn (s .indexed);
+      filtered = s .filtered;
+      made = s .made;
+      waiting = s .waiting;
+      finished = not (eqb (s .finished) 0);
+    }
+
+-- the state of a builder
+unfoldable pub stateOut : Builder → SalevoniState
+stateOut b =
+    record {
+      «block_size» = b .options .«block_size»;
+      interval = b .options .interval;
+      filter = filterNumber (b .options .filter);
+      bits = filterBits (b .options .filter);
+      lengths = lengthsOut (b .lengths);
+      written = b .written;
+      pending = blockOut (b .pending);
+      indexed = blockOut (b .indexed);
+      filtered = b .filtered;
+      made = b .made;
+      waiting = b .waiting;
+      finished = cond (b .finished) 1 0;
+    }
+
+-- nothing is lost: a state that came out goes in as the builder it was
+abbrev pub stateKept : Type 0
+stateKept = (b : Builder) → builderIn (stateOut b) ≡ b
+
+-- ---- the answers
+
+-- 0 with a new state, or the refusal's number with another
+unfoldable pub answered : SalevoniState → SalevoniState → Answer → SalevoniBuilt
+answered before after AnswerCase.Ok = record { answer = 0; size = 0; state = after }
+answered before after (AnswerCase.Refused n) = record { answer = n; size = 0; state = before }
+
+-- what start answers
+abbrev pub startedOut : Started → SalevoniBuilt
+startedOut x = answered (stateOut (x .state)) (stateOut (x .state)) (x .answer)
+
+-- what add answers: a refusal comes with the state that went in
+abbrev pub addedOut : SalevoniState → Added → SalevoniBuilt
+addedOut before x = answered before (stateOut (x .state)) (x .answer)
+
+-- 0 with the table's size and a new state, or the refusal's number with another
+unfoldable pub ended : SalevoniState → SalevoniState → Outcome → SalevoniBuilt
+ended before after (OutcomeCase.Size n) = record { answer = 0; size = n; state = after }
+ended before after (OutcomeCase.Refused n) = record { answer = n; size = 0; state = before }
+
+-- what finish answers
+abbrev pub finishedOut : SalevoniState → Finished → SalevoniBuilt
+finishedOut before x = ended before (stateOut (x .state)) (x .answer)
+
+-- start answers x and turns the runs r into r′
+pub record StartsOut (o : Options) (r r′ : Runs) (x : SalevoniBuilt) : Type 0 where
+  pub answer : Started
+  pub shown : x ≡ startedOut answer
+  pub is : StartedIs o r r′ answer
+
+-- add of a state likewise
+pub record AddsOut (s : SalevoniState) (r r′ : Runs) (a : Addition) (x : SalevoniBuilt) : Type 0 where
+  pub answer : Added
+  pub shown : x ≡ addedOut s answer
+  pub is : AddedIs (builderIn s) r r′ a answer
+
+-- finish of a state likewise
+pub record FinishesOut (s : SalevoniState) (r r′ : Runs) (x : SalevoniBuilt) : Type 0 where
+  pub answer : Finished
+  pub shown : x ≡ finishedOut s answer
+  pub is : FinishedIs (builderIn s) r r′ answer

@@ -1,0 +1,373 @@
+// A table built: start, add, finish. The state goes in and comes back by value.
+ghost use mathlib.Core.Path.{_≡_};
+ghost use mathlib.Core.Bool.{cond};
+ghost use Rattle.builder.specs.State.{seven};
+ghost use Rattle.exports.specs.Building.{filterIn, filterNumber, filterBits, blockIn, blockOut, lengthsIn, lengthsOut, builderIn, stateOut, answered, ended, startedOut, addedOut, finishedOut, StartsOut, AddsOut, FinishesOut};
+use block_builder::block_builder::BlockBuilder;
+use builder::table_builder::Added;
+use builder::table_builder::Answer;
+use builder::table_builder::Builder;
+use builder::table_builder::Finished;
+use builder::table_builder::Lengths;
+use builder::table_builder::Options;
+use builder::table_builder::Outcome;
+use builder::table_builder::Started;
+use filter_block::filter::Filter;
+
+// A block being built: the interval of restarts; the entry bytes, the restarts and the entries since the last restart; the last
+// key, which is the first len bytes of last.
+#[repr(C)]
+pub struct SalevoniBlock {
+    pub interval: usize,
+    pub bytes: usize,
+    pub restarts: usize,
+    pub since: usize,
+    pub len: usize,
+    pub last: [u8; 1032],
+}
+
+// The lengths of the seven runs.
+#[repr(C)]
+pub struct SalevoniLengths {
+    pub out: usize,
+    pub index: usize,
+    pub filters: usize,
+    pub restarts: usize,
+    pub index_restarts: usize,
+    pub offsets: usize,
+    pub hashes: usize,
+}
+
+// A table being built, the builder's state in numbers: filter is 0 for none, else Bloom with so many bits per key; finished is
+// 0 until finish.
+#[repr(C)]
+pub struct SalevoniState {
+    pub block_size: usize,
+    pub interval: usize,
+    pub filter: u32,
+    pub bits: u32,
+    pub lengths: SalevoniLengths,
+    pub written: usize,
+    pub pending: SalevoniBlock,
+    pub indexed: SalevoniBlock,
+    pub filtered: usize,
+    pub made: usize,
+    pub waiting: usize,
+    pub finished: u32,
+}
+
+// What a call of the builder answers, 0 or the refusal's number; the table's size after finish, else 0; and the state to go on
+// with.
+#[repr(C)]
+pub struct SalevoniBuilt {
+    pub answer: u32,
+    pub size: usize,
+    pub state: SalevoniState,
+}
+
+// A filter choice by its numbers.
+pub fn filter_in(filter: u32, bits: u32) -> Filter
+    ensures { λ r. ⌜ r ≡ filterIn filter bits ⌝ }
+{
+    if filter == 0 {
+        Filter::None
+    } else {
+        Filter::Bits(bits)
+    }
+}
+
+// Whether there is a filter.
+fn filter_number(f: Filter) -> u32
+    ensures { λ r. ⌜ r ≡ filterNumber f ⌝ }
+{
+    match f {
+        Filter::None => 0,
+        Filter::Bits(_) => 1,
+    }
+}
+
+// Its bits per key.
+fn filter_bits(f: Filter) -> u32
+    ensures { λ r. ⌜ r ≡ filterBits f ⌝ }
+{
+    match f {
+        Filter::None => 0,
+        Filter::Bits(b) => b,
+    }
+}
+
+// A block being built, as its crate has it.
+pub fn block_in(b: SalevoniBlock) -> BlockBuilder
+    ensures { λ r. ⌜ r ≡ blockIn b ⌝ }
+{
+    let last = b.last;
+    BlockBuilder {
+        interval: b.interval,
+        bytes: b.bytes,
+        restarts: b.restarts,
+        since: b.since,
+        len: b.len,
+        last: last,
+    }
+}
+
+// And back.
+pub fn block_out(b: BlockBuilder) -> SalevoniBlock
+    ensures { λ r. ⌜ r ≡ blockOut b ⌝ }
+{
+    let last = b.last;
+    SalevoniBlock {
+        interval: b.interval,
+        bytes: b.bytes,
+        restarts: b.restarts,
+        since: b.since,
+        len: b.len,
+        last: last,
+    }
+}
+
+fn lengths_in(l: SalevoniLengths) -> Lengths
+    ensures { λ r. ⌜ r ≡ lengthsIn l ⌝ }
+{
+    Lengths {
+        out: l.out,
+        index: l.index,
+        filters: l.filters,
+        restarts: l.restarts,
+        index_restarts: l.index_restarts,
+        offsets: l.offsets,
+        hashes: l.hashes,
+    }
+}
+
+fn lengths_out(l: Lengths) -> SalevoniLengths
+    ensures { λ r. ⌜ r ≡ lengthsOut l ⌝ }
+{
+    SalevoniLengths {
+        out: l.out,
+        index: l.index,
+        filters: l.filters,
+        restarts: l.restarts,
+        index_restarts: l.index_restarts,
+        offsets: l.offsets,
+        hashes: l.hashes,
+    }
+}
+
+// The builder of a state.
+fn builder_in(s: SalevoniState) -> Builder
+    ensures { λ r. ⌜ r ≡ builderIn s ⌝ }
+{
+    let l = s.lengths;
+    let p = s.pending;
+    let i = s.indexed;
+    let options = Options {
+        block_size: s.block_size,
+        interval: s.interval,
+        filter: filter_in(s.filter, s.bits),
+    };
+    Builder {
+        options: options,
+        lengths: lengths_in(l),
+        written: s.written,
+        pending: block_in(p),
+        indexed: block_in(i),
+        filtered: s.filtered,
+        made: s.made,
+        waiting: s.waiting,
+        finished: s.finished != 0,
+    }
+}
+
+// 1 for true and 0 for false.
+fn flag(b: bool) -> u32
+    ensures { λ r. ⌜ r ≡ cond b 1 0 ⌝ }
+{
+    if b { 1 } else { 0 }
+}
+
+// The state of a builder.
+fn state_out(b: Builder) -> SalevoniState
+    ensures { λ r. ⌜ r ≡ stateOut b ⌝ }
+{
+    let o = b.options;
+    let f = o.filter;
+    let l = b.lengths;
+    let p = b.pending;
+    let i = b.indexed;
+    SalevoniState {
+        block_size: o.block_size,
+        interval: o.interval,
+        filter: filter_number(f),
+        bits: filter_bits(f),
+        lengths: lengths_out(l),
+        written: b.written,
+        pending: block_out(p),
+        indexed: block_out(i),
+        filtered: b.filtered,
+        made: b.made,
+        waiting: b.waiting,
+        finished: flag(b.finished),
+    }
+}
+
+// What start and add answer: 0 with the state after, or the refusal's number with the one before.
+fn answered(before: SalevoniState, after: SalevoniState, answer: Answer) -> SalevoniBuilt
+    ensures { λ r. ⌜ r ≡ answered before after answer ⌝ }
+{
+    match answer {
+        Answer::Ok => SalevoniBuilt {
+            answer: 0,
+            size: 0,
+            state: after,
+        },
+        Answer::Refused(n) => SalevoniBuilt {
+            answer: n,
+            size: 0,
+            state: before,
+        },
+    }
+}
+
+// What finish answers: the table's size too.
+fn ended(before: SalevoniState, after: SalevoniState, outcome: Outcome) -> SalevoniBuilt
+    ensures { λ r. ⌜ r ≡ ended before after outcome ⌝ }
+{
+    match outcome {
+        Outcome::Size(n) => SalevoniBuilt {
+            answer: 0,
+            size: n,
+            state: after,
+        },
+        Outcome::Refused(n) => SalevoniBuilt {
+            answer: n,
+            size: 0,
+            state: before,
+        },
+    }
+}
+
+// Start's answer and the state that it gives.
+fn started_out(x: Started) -> SalevoniBuilt
+    ensures { λ r. ⌜ r ≡ startedOut x ⌝ }
+{
+    let answer = x.answer;
+    let b = x.state;
+    let after = state_out(b);
+    answered(after, after, answer)
+}
+
+// Add's answer; a refusal comes with the state that went in.
+fn added_out(before: SalevoniState, x: Added) -> SalevoniBuilt
+    ensures { λ r. ⌜ r ≡ addedOut before x ⌝ }
+{
+    let answer = x.answer;
+    let b = x.state;
+    answered(before, state_out(b), answer)
+}
+
+// Finish's answer likewise.
+fn finished_out(before: SalevoniState, x: Finished) -> SalevoniBuilt
+    ensures { λ r. ⌜ r ≡ finishedOut before x ⌝ }
+{
+    let outcome = x.answer;
+    let b = x.state;
+    ended(before, state_out(b), outcome)
+}
+
+// Starts a table in seven runs; nothing is written.
+#[no_mangle]
+pub extern "C" fn salevoni_start(
+    block_size: usize,
+    interval: usize,
+    filter: u32,
+    bits: u32,
+    out: &mut [u8],
+    index: &mut [u8],
+    filters: &mut [u8],
+    restarts: &mut [u32],
+    index_restarts: &mut [u32],
+    offsets: &mut [u32],
+    hashes: &mut [u32],
+) -> SalevoniBuilt
+    ensures { λ r. ⌜ StartsOut (record { «block_size» = «block_size»; interval = interval; filter = filterIn filter bits }) (seven (now (out .entry)) (now (index .entry)) (now (filters .entry)) (now (restarts .entry)) (now («index_restarts» .entry)) (now (offsets .entry)) (now (hashes .entry))) (seven (now (out .exit)) (now (index .exit)) (now (filters .exit)) (now (restarts .exit)) (now («index_restarts» .exit)) (now (offsets .exit)) (now (hashes .exit))) r ⌝ }
+{
+    let options = Options {
+        block_size: block_size,
+        interval: interval,
+        filter: filter_in(filter, bits),
+    };
+    let x = builder::table_builder::start(
+        options,
+        out,
+        index,
+        filters,
+        restarts,
+        index_restarts,
+        offsets,
+        hashes,
+    );
+    started_out(x)
+}
+
+// Adds an entry: a word, its edition and kind, and a value.
+#[no_mangle]
+pub extern "C" fn salevoni_add(
+    state: SalevoniState,
+    out: &mut [u8],
+    index: &mut [u8],
+    filters: &mut [u8],
+    restarts: &mut [u32],
+    index_restarts: &mut [u32],
+    offsets: &mut [u32],
+    hashes: &mut [u32],
+    word: &[u8],
+    edition: u64,
+    kind: u8,
+    value: &[u8],
+) -> SalevoniBuilt
+    ensures { λ r. ⌜ AddsOut state (seven (now (out .entry)) (now (index .entry)) (now (filters .entry)) (now (restarts .entry)) (now («index_restarts» .entry)) (now (offsets .entry)) (now (hashes .entry))) (seven (now (out .exit)) (now (index .exit)) (now (filters .exit)) (now (restarts .exit)) (now («index_restarts» .exit)) (now (offsets .exit)) (now (hashes .exit))) (record { word = now (word .entry); edition = edition; kind = kind; value = now (value .entry) }) r ⌝ }
+{
+    let b = builder_in(state);
+    let x = b.add(
+        out,
+        index,
+        filters,
+        restarts,
+        index_restarts,
+        offsets,
+        hashes,
+        word,
+        edition,
+        kind,
+        value,
+    );
+    added_out(state, x)
+}
+
+// Writes all that is left of the table, which is then the first size bytes of out.
+#[no_mangle]
+pub extern "C" fn salevoni_finish(
+    state: SalevoniState,
+    out: &mut [u8],
+    index: &mut [u8],
+    filters: &mut [u8],
+    restarts: &mut [u32],
+    index_restarts: &mut [u32],
+    offsets: &mut [u32],
+    hashes: &mut [u32],
+) -> SalevoniBuilt
+    ensures { λ r. ⌜ FinishesOut state (seven (now (out .entry)) (now (index .entry)) (now (filters .entry)) (now (restarts .entry)) (now («index_restarts» .entry)) (now (offsets .entry)) (now (hashes .entry))) (seven (now (out .exit)) (now (index .exit)) (now (filters .exit)) (now (restarts .exit)) (now («index_restarts» .exit)) (now (offsets .exit)) (now (hashes .exit))) r ⌝ }
+{
+    let b = builder_in(state);
+    let x = b.finish(
+        out,
+        index,
+        filters,
+        restarts,
+        index_restarts,
+        offsets,
+        hashes,
+    );
+    finished_out(state, x)
+}
