@@ -175,6 +175,136 @@ salevoni_built salevoni_finish(salevoni_state state, uint8_t *out, size_t out_le
                                uint32_t *index_restarts, size_t index_restarts_len, uint32_t *offsets, size_t offsets_len,
                                uint32_t *hashes, size_t hashes_len);
 
+/* ---- pieces of a table ---- */
+
+/* 0 and the size of what was written at the front of a run, or 2 and 0 where there is no room for it, and the run as it was. */
+typedef struct salevoni_size {
+    uint32_t answer;
+    size_t size;
+} salevoni_size;
+
+/* CRC-32C continued over some bytes; it starts from 0. Nothing is written. */
+uint32_t salevoni_crc(uint32_t crc, const uint8_t *bytes, size_t bytes_len);
+
+/* A checksum masked as a table stores it. */
+uint32_t salevoni_mask(uint32_t crc);
+
+/* Writes the internal key of a word, an edition and a kind: word_len + 8 bytes. */
+salevoni_size salevoni_internal_key(uint8_t *out, size_t out_len, const uint8_t *word, size_t word_len, uint64_t edition,
+                                    uint8_t kind);
+
+/* Writes the separator of two words: a itself, or a short word above a and below b. At most a_len + 1 bytes. */
+salevoni_size salevoni_separator(uint8_t *out, size_t out_len, const uint8_t *a, size_t a_len, const uint8_t *b, size_t b_len);
+
+/* Writes the separator of two internal keys, an index key between them: at most a_len bytes. */
+salevoni_size salevoni_internal_separator(uint8_t *out, size_t out_len, const uint8_t *a, size_t a_len, const uint8_t *b,
+                                          size_t b_len);
+
+/* Writes a short word that is not below a: at most a_len + 1 bytes. */
+salevoni_size salevoni_short_succ(uint8_t *out, size_t out_len, const uint8_t *a, size_t a_len);
+
+/* 0 and where the metaindex and the index of a table stand, or the refusal's number, 7 or 8, and zeros. */
+typedef struct salevoni_footer_read {
+    uint32_t answer;
+    size_t meta_offset;
+    size_t meta_size;
+    size_t index_offset;
+    size_t index_size;
+} salevoni_footer_read;
+
+/* Decodes the footer of a table. Nothing is written. */
+salevoni_footer_read salevoni_footer(const uint8_t *table, size_t table_len);
+
+/* ---- filters ---- */
+
+/* The hash of a word. */
+uint32_t salevoni_hash(const uint8_t *bytes, size_t bytes_len);
+
+/* How many probes a filter of so many bits per key takes: 1 to 30. */
+uint32_t salevoni_probes(uint32_t bits);
+
+/* Writes the Bloom filter of some hashes: nothing for no hashes, else bits * hashes_len bits, 8 bytes at least, and 1 byte. */
+salevoni_size salevoni_filter(uint32_t bits, const uint32_t *hashes, size_t hashes_len, uint8_t *out, size_t out_len);
+
+/* Whether a filter lets a hash through: 1 or 0. */
+uint32_t salevoni_filter_may(const uint8_t *filter, size_t filter_len, uint32_t hash);
+
+/* 0 and how many bytes the filters have now and how many there are, or 2 and zeros without room. */
+typedef struct salevoni_filters {
+    uint32_t answer;
+    size_t bytes;
+    size_t made;
+} salevoni_filters;
+
+/* Makes filters until there are count: the first of all hashes, the others empty. After each data block count is the next
+   block's offset / 2048, and at the end, if hashes wait, made + 1. The filters made before have bytes bytes at the front of
+   filters, and their made starts are at the front of offsets; the new ones go behind them. Nothing is written where there are
+   count already. */
+salevoni_filters salevoni_filter_block_add(uint32_t bits, const uint32_t *hashes, size_t hashes_len, size_t count,
+                                           uint8_t *filters, size_t filters_len, size_t bytes, uint32_t *offsets,
+                                           size_t offsets_len, size_t made);
+
+/* Writes the filter block of the filters' bytes and their starts: filters_len + 4 * offsets_len + 5 bytes. */
+salevoni_size salevoni_filter_block_finish(const uint8_t *filters, size_t filters_len, const uint32_t *offsets,
+                                           size_t offsets_len, uint8_t *out, size_t out_len);
+
+/* Whether a filter block lets the data block at an offset hold a word of that hash: 1 or 0. */
+uint32_t salevoni_filter_block_may(const uint8_t *block, size_t block_len, size_t offset, uint32_t hash);
+
+/* Whether some bytes are a well-formed filter block: 0 or 12. */
+uint32_t salevoni_filter_block_check(const uint8_t *block, size_t block_len);
+
+/* ---- blocks ---- */
+
+/* 0 and the block with an entry more, or 2 and the block as it was where the entry does not fit. */
+typedef struct salevoni_block_added {
+    uint32_t answer;
+    salevoni_block block;
+} salevoni_block_added;
+
+/* What reading a block answers: 0 and an entry, 100 for none, 14 where no entry starts at the place, 10 for a malformed block
+   or a key that has no room. Where the entry starts, the length of its key, and where in the block its value lies; else zeros. */
+typedef struct salevoni_row {
+    uint32_t answer;
+    size_t start;
+    size_t key_len;
+    size_t value_at;
+    size_t value_len;
+} salevoni_row;
+
+/* The kinds of block. */
+enum { SALEVONI_DATA = 0, SALEVONI_INDEX = 1, SALEVONI_METAINDEX = 2 };
+
+/* A block of no entries, with a restart every interval entries. */
+salevoni_block salevoni_block_start(size_t interval);
+
+/* Adds an entry with a key of up to 1,032 bytes to the block at the front of out; a restart goes into restarts. Order of keys is
+   not asked for. Refuses with 2. */
+salevoni_block_added salevoni_block_add(salevoni_block block, uint8_t *out, size_t out_len, uint32_t *restarts,
+                                        size_t restarts_len, const uint8_t *key, size_t key_len, const uint8_t *value,
+                                        size_t value_len);
+
+/* Writes the restarts and their count behind the entries: the block is then the first size bytes of out. Refuses with 2. */
+salevoni_size salevoni_block_finish(salevoni_block block, uint8_t *out, size_t out_len, const uint32_t *restarts,
+                                    size_t restarts_len);
+
+/* Whether some bytes are a well-formed block of a kind, any number above 1 a metaindex: 0 or 10. The order of keys is not
+   looked at. */
+uint32_t salevoni_block_check(const uint8_t *block, size_t block_len, uint32_t kind);
+
+/* The first entry of a block. The key goes to the front of key; without an entry key is as it was. */
+salevoni_row salevoni_block_first(const uint8_t *block, size_t block_len, uint8_t *key, size_t key_size);
+
+/* The entry that starts at a place of a block; key as above. */
+salevoni_row salevoni_block_at(const uint8_t *block, size_t block_len, size_t start, uint8_t *key, size_t key_size);
+
+/* The entry after the one that starts at a place; key as above. */
+salevoni_row salevoni_block_after(const uint8_t *block, size_t block_len, size_t start, uint8_t *key, size_t key_size);
+
+/* The first entry of a block of internal keys that is not below a word and an edition; key as above. */
+salevoni_row salevoni_block_seek(const uint8_t *block, size_t block_len, const uint8_t *word, size_t word_len,
+                                 uint64_t edition, uint8_t *key, size_t key_size);
+
 #ifdef __cplusplus
 }
 #endif

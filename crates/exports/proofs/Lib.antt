@@ -1,2 +1,4 @@
+pub mod BlockLaws
 pub mod BuildLaws
+pub mod NumberLaws
 pub mod ReadLaws

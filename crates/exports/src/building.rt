@@ -1,8 +1,8 @@
 // A table built: start, add, finish. The state goes in and comes back by value.
 ghost use mathlib.Core.Path.{_≡_};
-ghost use mathlib.Core.Bool.{cond};
 ghost use Rattle.builder.specs.State.{seven};
 ghost use Rattle.exports.specs.Building.{filterIn, filterNumber, filterBits, blockIn, blockOut, lengthsIn, lengthsOut, builderIn, stateOut, answered, ended, startedOut, addedOut, finishedOut, StartsOut, AddsOut, FinishesOut};
+use crate::numbers::number_if;
 use block_builder::block_builder::BlockBuilder;
 use builder::table_builder::Added;
 use builder::table_builder::Answer;
@@ -66,7 +66,7 @@ pub struct SalevoniBuilt {
 }
 
 // A filter choice by its numbers.
-pub fn filter_in(filter: u32, bits: u32) -> Filter
+fn filter_in(filter: u32, bits: u32) -> Filter
     ensures { λ r. ⌜ r ≡ filterIn filter bits ⌝ }
 {
     if filter == 0 {
@@ -179,13 +179,6 @@ fn builder_in(s: SalevoniState) -> Builder
     }
 }
 
-// 1 for true and 0 for false.
-fn flag(b: bool) -> u32
-    ensures { λ r. ⌜ r ≡ cond b 1 0 ⌝ }
-{
-    if b { 1 } else { 0 }
-}
-
 // The state of a builder.
 fn state_out(b: Builder) -> SalevoniState
     ensures { λ r. ⌜ r ≡ stateOut b ⌝ }
@@ -207,7 +200,7 @@ fn state_out(b: Builder) -> SalevoniState
         filtered: b.filtered,
         made: b.made,
         waiting: b.waiting,
-        finished: flag(b.finished),
+        finished: number_if(b.finished, 1, 0),
     }
 }
 

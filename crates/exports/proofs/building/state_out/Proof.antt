@@ -19,8 +19,8 @@ block-out-requires c κs = search needs
 block-out-requires-2 : tie.Need-block-out-requires-2
 block-out-requires-2 c κs = search needs
 
-flag-requires : tie.Need-flag-requires
-flag-requires c κs = search needs
+number-if-requires : tie.Need-number-if-requires
+number-if-requires c κs = search needs
 
 returns : tie.Need-returns
 unfolding stateOut
@@ -35,5 +35,5 @@ state-out-spec =
     lengths-out-requires
     block-out-requires
     block-out-requires-2
-    flag-requires
+    number-if-requires
     returns)
