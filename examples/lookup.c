@@ -41,7 +41,7 @@ static void put_entry(const uint8_t *table, const uint8_t *key, salevoni_entry e
         printf(" deleted\n");
         return;
     }
-    printf(" = ");
+    printf(e.value_len == 0 ? " =" : " = ");
     put_bytes(table + e.value_at, e.value_len, 0);
     putchar('\n');
 }
