@@ -52,7 +52,7 @@ static void must(const Status &s, const char *what) {
     }
 }
 
-static uint64_t state = 0x5a1e0011;
+static uint64_t state; // set anew by each part
 
 static uint64_t any() {
     uint64_t z = (state += 0x9e3779b97f4a7c15);
@@ -252,6 +252,9 @@ static vector<Pair> same_reading(const string &t, int seeks) {
     tables_read++;
     entries_read += ours.size();
     bytes_read += t.size();
+    // Numbers at random for the seeks are apart from those for contents, as how many tables a database has can vary.
+    uint64_t kept = state;
+    state = t.size();
     for (int i = 0; i < seeks; i++) {
         string word = near_word(ours);
         uint64_t edition = upto(3) ? upto(20000) : upto(1) ? SALEVONI_EDITION_MAX : 0;
@@ -275,6 +278,7 @@ static vector<Pair> same_reading(const string &t, int seeks) {
         else if (answer != SALEVONI_NONE && pair_of(t, key, e) != Pair(it->key().ToString(), it->value().ToString())) fault("a lookup finds another entry");
         lookups_made++;
     }
+    state = kept;
     return ours;
 }
 
@@ -346,7 +350,7 @@ static void same_view(const vector<string> &tables, const View &view, const std:
 }
 
 static std::map<uint32_t, long> refused;
-static vector<string> samples; // tables for the damage
+static vector<string> samples, large; // tables for the damage, at every byte and at some
 
 static void judge_tables(const vector<string> &tables, int seeks) {
     for (const string &t : tables) {
@@ -356,7 +360,8 @@ static void judge_tables(const vector<string> &tables, int seeks) {
             continue;
         }
         same_reading(t, seeks);
-        if (t.size() < 6000 && samples.size() < 12) samples.push_back(t);
+        if (t.size() < 8000 && samples.size() < 12) samples.push_back(t);
+        else if (t.size() < 200000 && large.size() < 40) large.push_back(t);
     }
 }
 
@@ -373,6 +378,7 @@ static leveldb::Options options_for(const Setting &s, const leveldb::FilterPolic
 }
 
 static void database(const Setting &s, int ops) {
+    state = databases;
     std::unique_ptr<const leveldb::FilterPolicy> policy(s.bits ? leveldb::NewBloomFilterPolicy(s.bits) : nullptr);
     leveldb::Options o = options_for(s, policy.get());
     string dir = folder + "/db" + std::to_string(databases++);
@@ -446,7 +452,7 @@ static string table_of(const Setting &s, const vector<Pair> &all) {
     return file.s;
 }
 
-static vector<Pair> rising(size_t n, bool small) {
+static vector<Pair> rising(size_t n, bool small, uint64_t top) {
     struct Less {
         bool operator()(const string &a, const string &b) const { return by_tag.Compare(a, b) < 0; }
     };
@@ -456,7 +462,7 @@ static vector<Pair> rising(size_t n, bool small) {
     for (size_t i = 0; i < n; i++) {
         string w = !words.empty() && upto(1) ? words[upto(words.size() - 1)] : some_word();
         if (small && w.size() > 40) w.resize(40);
-        uint64_t edition = upto(1) ? upto(20) : upto(6) ? upto(20000) : SALEVONI_EDITION_MAX - upto(2);
+        uint64_t edition = upto(1) ? upto(20) : upto(6) ? upto(20000) : top - upto(2);
         if (!taken.insert(std::make_pair(w, edition)).second) continue;
         words.push_back(w);
         all[tagged(w, edition, upto(5) ? 1 : 0)] = small ? bytes(upto(12)) : some_value();
@@ -465,11 +471,12 @@ static vector<Pair> rising(size_t n, bool small) {
 }
 
 static void own_builder(int rounds) {
+    state = 1000;
     static const int bits[] = {0, 0, 1, 5, 10, 16, 44, 64}, intervals[] = {1, 2, 3, 16, 64, 1024};
     static const size_t blocks[] = {1, 8, 20, 64, 256, 1024, 4096, 65536};
     for (int i = 0; i < rounds; i++) {
         Setting s = {bits[upto(7)], intervals[upto(5)], blocks[upto(7)]};
-        vector<Pair> all = rising(i == 0 ? 0 : 1 + upto(upto(9) ? 40 : 600), i % 2);
+        vector<Pair> all = rising(i == 0 ? 0 : 1 + upto(upto(9) ? 40 : 600), i % 2, SALEVONI_EDITION_MAX);
         string t = table_of(s, all);
         uint32_t c = check(t);
         if (c) fault("a table of LevelDB's builder, block size %zu, %d bits, interval %d, is refused with %u", s.block, s.bits, s.interval, c);
@@ -523,9 +530,12 @@ static void damage_with(const string &t, const string &changed, const vector<Pai
     if (check(changed)) return;
     passed++;
     if (walk(changed) != all) fault("a damaged table passes and reads otherwise");
+    // What is neither under a checksum nor read are the zeros of the footer, and there a number can go on into them.
+    if (changed.size() != t.size() || changed.compare(0, t.size() - 48, t, 0, t.size() - 48)) fault("a table damaged before its footer passes");
 }
 
 static void damage() {
+    state = 2000;
     for (const string &t : samples) {
         vector<Pair> all = walk(t);
         for (size_t i = 0; i < t.size(); i++) {
@@ -546,9 +556,110 @@ static void damage() {
             if (n + 48 < t.size()) damage_with(t, t.substr(0, n) + foot, all, true);
         }
     }
+    for (const string &t : large) {
+        vector<Pair> all = walk(t);
+        for (int i = 0; i < 200; i++) {
+            string c = t;
+            size_t from = upto(3) ? 0 : t.size() - std::min<size_t>(t.size(), 3000); // at times near the end, where index and footer are
+            for (size_t n = 1 + (upto(2) ? 0 : upto(9)); n > 0; n--) c[from + upto(t.size() - 1 - from)] ^= (char)(upto(1) ? 1 << upto(7) : 1 + upto(254));
+            damage_with(t, c, all, false);
+            damage_with(t, t.substr(0, upto(t.size() - 1)), all, true);
+        }
+    }
 }
 
-#include "ours.h"
+// ---- tables of ours
+
+struct Runs {
+    vector<uint8_t> bytes[3];
+    vector<uint32_t> numbers[4];
+    salevoni_runs lent;
+    explicit Runs(size_t room) {
+        for (auto &b : bytes) b.resize(room);
+        for (auto &n : numbers) n.resize(room / 4 + 1);
+        lent = {bytes[0].data(), room, bytes[1].data(), room, bytes[2].data(), room, numbers[0].data(), numbers[0].size(), numbers[1].data(), numbers[1].size(),
+                numbers[2].data(), numbers[2].size(), numbers[3].data(), numbers[3].size()};
+    }
+};
+
+static string our_table(Runs &runs, const Setting &s, const vector<Pair> &all) {
+    salevoni_built b = salevoni_start(s.block, s.interval, s.bits > 0, s.bits, SALEVONI_RUNS(runs.lent));
+    for (const Pair &p : all) {
+        if (b.answer) break;
+        Slice word = word_of(p.first);
+        b = salevoni_add(b.state, SALEVONI_RUNS(runs.lent), (const uint8_t *)word.data(), word.size(), tag_of(p.first) / 256, tag_of(p.first) % 256, at(p.second), p.second.size());
+    }
+    if (!b.answer) b = salevoni_finish(b.state, SALEVONI_RUNS(runs.lent));
+    if (b.answer) fault("our builder answers %u", b.answer);
+    return string((const char *)runs.lent.out, b.size);
+}
+
+static long ours_read = 0, repaired = 0, words_got = 0;
+
+// LevelDB takes our tables into a database, and the database shows the newest version of each word.
+static void repair(const vector<string> &tables, const vector<Pair> &all, int bits) {
+    std::unique_ptr<const leveldb::FilterPolicy> policy(bits ? leveldb::NewBloomFilterPolicy(bits) : nullptr);
+    leveldb::Options o = options_for({bits, 16, 4096}, policy.get());
+    o.paranoid_checks = true;
+    leveldb::Env *env = leveldb::Env::Default();
+    string dir = folder + "/ours" + std::to_string(repaired);
+    must(env->CreateDir(dir), "folder");
+    for (size_t i = 0; i < tables.size(); i++) must(leveldb::WriteStringToFile(env, tables[i], dir + "/00000" + std::to_string(i + 3) + ".ldb"), "write");
+    must(leveldb::RepairDB(dir, o), "repair");
+    vector<string> left = tables_in(dir), given = tables;
+    std::sort(left.begin(), left.end());
+    std::sort(given.begin(), given.end());
+    if (left != given) fault("LevelDB repairs a table of ours");
+    leveldb::DB *db;
+    o.create_if_missing = false;
+    must(leveldb::DB::Open(o, dir, &db), "open of our tables");
+    View expected;
+    std::set<string> words;
+    for (const Pair &p : all) // of one word the newest comes first
+        if (words.insert(word_of(p.first).ToString()).second && tag_of(p.first) % 256) expected[word_of(p.first).ToString()] = p.second;
+    if (view_of(db, nullptr) != expected) fault("a database of our tables shows another view");
+    leveldb::ReadOptions r;
+    r.verify_checksums = true;
+    for (const string &w : words) {
+        string value;
+        Status s = db->Get(r, w, &value);
+        auto e = expected.find(w);
+        if (e == expected.end() ? !s.IsNotFound() : !s.ok() || value != e->second) fault("a database of our tables says %s of a word", s.ToString().c_str());
+        string other = w + "!";
+        if (!words.count(other) && !db->Get(r, other, &value).IsNotFound()) fault("a database of our tables finds an absent word");
+        words_got++;
+    }
+    delete db;
+    must(leveldb::DestroyDB(dir, o), "destroy");
+    repaired++;
+}
+
+static void ours(int rounds) {
+    state = 3000;
+    static const int bits[] = {0, 0, 1, 5, 10, 16, 44, 64}, intervals[] = {1, 2, 3, 16, 64, 1024};
+    static const size_t blocks[] = {8, 20, 64, 256, 1024, 4096, 65536};
+    Runs runs(4 << 20);
+    for (int i = 0; i < rounds; i++) {
+        Setting s = {bits[upto(7)], intervals[upto(5)], blocks[upto(6)]};
+        // A database whose last number is the largest of all drops every entry when it compacts: those tables have none of it.
+        bool whole = i % 20 == 1;
+        vector<Pair> all = rising(i == 0 ? 0 : 1 + upto(upto(9) ? 40 : 600), i % 2, SALEVONI_EDITION_MAX - whole), some[3];
+        string t = our_table(runs, s, all);
+        uint32_t c = check(t);
+        if (c) fault("our check refuses our table with %u", c);
+        if (same_reading(t, 10) != all) fault("a table of ours reads otherwise than it was written");
+        ours_read++;
+        if (whole) {
+            repair({t}, all, s.bits);
+            // all versions of a word in one table: LevelDB expects that a file with a larger number has the newer ones
+            for (const Pair &p : all) some[std::hash<string>()(word_of(p.first).ToString()) % 3].push_back(p);
+            vector<string> tables;
+            for (auto &part : some)
+                if (!part.empty()) tables.push_back(our_table(runs, s, part));
+            if (!tables.empty()) repair(tables, all, s.bits ? s.bits : 10);
+        }
+    }
+}
 
 int main(int, char **args) {
     folder = args[1];
@@ -563,8 +674,11 @@ int main(int, char **args) {
     for (auto &r : refused) printf(" %ld with %u", r.second, r.first);
     printf("\n");
     damage();
-    printf("judge: %ld damaged and %ld cut copies of %zu tables; the %ld that pass read as before\n", damaged, cut, samples.size(), passed);
-    ours();
+    printf("judge: %ld damaged and %ld cut copies of %zu tables; the %ld that pass read as before\n", damaged, cut, samples.size() + large.size(), passed);
+    tables_read = entries_read = seeks_made = lookups_made = bytes_read = 0;
+    ours(2000);
+    printf("judge: %ld tables of ours (%ld MB) read alike by LevelDB: %ld entries, %ld seeks; %ld databases made of them, %ld words got\n", ours_read, bytes_read >> 20, entries_read, seeks_made,
+           repaired, words_got);
     if (faults) printf("judge: %ld faults\n", faults);
     return faults > 0;
 }
