@@ -59,6 +59,7 @@ use error::{Result, Status, StatusCode};
 
 mod base;
 mod listed;
+mod measure;
 mod ours;
 mod pieces;
 mod rules;
@@ -67,6 +68,9 @@ mod tables;
 mod text;
 
 fn main() {
+    if std::env::args().nth(1).as_deref() == Some("measure") {
+        return measure::run();
+    }
     base::silence();
     if !run::run() {
         std::process::exit(1);

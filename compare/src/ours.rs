@@ -156,13 +156,22 @@ fn with_pair(t: &[u8], key: &[u8], e: Entry) -> (Entry, Option<Pair>) {
 
 pub fn seek(t: &[u8], word: &[u8], edition: u64) -> (Entry, Option<Pair>) {
     let mut key = [0; 1032];
-    let e = unsafe { salevoni_seek(t.as_ptr(), t.len(), word.as_ptr(), word.len(), edition, key.as_mut_ptr(), key.len()) };
+    let e = seek_in(t, word, edition, &mut key);
     with_pair(t, &key, e)
+}
+
+/// A lookup and a seek with a key buffer of the caller's.
+pub fn lookup_in(t: &[u8], word: &[u8], edition: u64, key: &mut [u8]) -> Entry {
+    unsafe { salevoni_lookup(t.as_ptr(), t.len(), word.as_ptr(), word.len(), edition, key.as_mut_ptr(), key.len()) }
+}
+
+pub fn seek_in(t: &[u8], word: &[u8], edition: u64, key: &mut [u8]) -> Entry {
+    unsafe { salevoni_seek(t.as_ptr(), t.len(), word.as_ptr(), word.len(), edition, key.as_mut_ptr(), key.len()) }
 }
 
 pub fn lookup(t: &[u8], word: &[u8], edition: u64) -> (Entry, Option<Pair>) {
     let mut key = [0; 1032];
-    let e = unsafe { salevoni_lookup(t.as_ptr(), t.len(), word.as_ptr(), word.len(), edition, key.as_mut_ptr(), key.len()) };
+    let e = lookup_in(t, word, edition, &mut key);
     with_pair(t, &key, e)
 }
 
