@@ -148,7 +148,10 @@ class InMemory : public leveldb::RandomAccessFile {
 class ToMemory : public leveldb::WritableFile {
   public:
     string s;
-    Status Append(const Slice &d) override { s.append(d.data(), d.size()); return Status::OK(); }
+    Status Append(const Slice &d) override {
+        s.append(d.data(), d.size());
+        return Status::OK();
+    }
     Status Close() override { return Status::OK(); }
     Status Flush() override { return Status::OK(); }
     Status Sync() override { return Status::OK(); }
@@ -231,8 +234,12 @@ static string near_word(const vector<Pair> &all) {
     switch (upto(5)) {
     case 0: break;
     case 1: w += (char)0; break;
-    case 2: if (w.size() > 1) w.pop_back(); break;
-    case 3: if (!w.empty()) w[upto(w.size() - 1)]++; break;
+    case 2:
+        if (w.size() > 1) w.pop_back();
+        break;
+    case 3:
+        if (!w.empty()) w[upto(w.size() - 1)]++;
+        break;
     case 4: w += (char)any(); break;
     default: w = bytes(1 + upto(4));
     }
@@ -269,13 +276,19 @@ static vector<Pair> same_reading(const string &t, int seeks) {
         it->Seek(tagged(word, edition, 1));
         salevoni_entry e = salevoni_seek(at(t), t.size(), (const uint8_t *)word.data(), word.size(), edition, key, sizeof key);
         bool found = e.answer == SALEVONI_OK;
-        if (found != it->Valid() || (!found && e.answer != SALEVONI_NONE)) fault("a seek answers %u", e.answer);
-        else if (found && pair_of(t, key, e) != Pair(it->key().ToString(), it->value().ToString())) fault("a seek finds another entry");
+        if (found != it->Valid() || (!found && e.answer != SALEVONI_NONE))
+            fault("a seek answers %u", e.answer);
+        else if (found && pair_of(t, key, e) != Pair(it->key().ToString(), it->value().ToString()))
+            fault("a seek finds another entry");
         seeks_made++;
         e = salevoni_lookup(at(t), t.size(), (const uint8_t *)word.data(), word.size(), edition, key, sizeof key);
-        uint32_t answer = !it->Valid() || word_of(it->key()) != Slice(word) ? SALEVONI_NONE : tag_of(it->key()) % 256 ? SALEVONI_OK : SALEVONI_DELETED;
-        if (e.answer != answer) fault("a lookup answers %u, not %u", e.answer, answer);
-        else if (answer != SALEVONI_NONE && pair_of(t, key, e) != Pair(it->key().ToString(), it->value().ToString())) fault("a lookup finds another entry");
+        uint32_t answer = !it->Valid() || word_of(it->key()) != Slice(word) ? SALEVONI_NONE
+                          : tag_of(it->key()) % 256                         ? SALEVONI_OK
+                                                                            : SALEVONI_DELETED;
+        if (e.answer != answer)
+            fault("a lookup answers %u, not %u", e.answer, answer);
+        else if (answer != SALEVONI_NONE && pair_of(t, key, e) != Pair(it->key().ToString(), it->value().ToString()))
+            fault("a lookup finds another entry");
         lookups_made++;
     }
     state = kept;
@@ -360,8 +373,10 @@ static void judge_tables(const vector<string> &tables, int seeks) {
             continue;
         }
         same_reading(t, seeks);
-        if (t.size() < 8000 && samples.size() < 12) samples.push_back(t);
-        else if (t.size() < 200000 && large.size() < 40) large.push_back(t);
+        if (t.size() < 8000 && samples.size() < 12)
+            samples.push_back(t);
+        else if (t.size() < 200000 && large.size() < 40)
+            large.push_back(t);
     }
 }
 
@@ -393,7 +408,10 @@ static void database(const Setting &s, int ops) {
             for (size_t many = 1 + (upto(5) ? 0 : upto(9)); many > 0; many--, i++) {
                 string w = !known.empty() && upto(2) ? known[upto(known.size() - 1)] : some_word();
                 if (words.insert(w).second) known.push_back(w);
-                if (upto(4)) batch.Put(w, some_value()); else batch.Delete(w);
+                if (upto(4))
+                    batch.Put(w, some_value());
+                else
+                    batch.Delete(w);
                 sequence++;
             }
             must(db->Write(leveldb::WriteOptions(), &batch), "write");
@@ -479,8 +497,10 @@ static void own_builder(int rounds) {
         vector<Pair> all = rising(i == 0 ? 0 : 1 + upto(upto(9) ? 40 : 600), i % 2, SALEVONI_EDITION_MAX);
         string t = table_of(s, all);
         uint32_t c = check(t);
-        if (c) fault("a table of LevelDB's builder, block size %zu, %d bits, interval %d, is refused with %u", s.block, s.bits, s.interval, c);
-        else if (same_reading(t, 10) != all) fault("a table of LevelDB's builder reads otherwise than it was written");
+        if (c)
+            fault("a table of LevelDB's builder, block size %zu, %d bits, interval %d, is refused with %u", s.block, s.bits, s.interval, c);
+        else if (same_reading(t, 10) != all)
+            fault("a table of LevelDB's builder reads otherwise than it was written");
         if (!c && t.size() < 3000 && samples.size() < 40) samples.push_back(t);
     }
 }
@@ -498,9 +518,12 @@ static void refusal(const char *what, uint32_t number, const leveldb::Options &o
     if (tables.size() != 1) fault("%s: %zu tables", what, tables.size());
     for (const string &t : tables) {
         uint32_t c = check(t);
-        if (c != number) fault("%s: answer %u, not %u", what, c, number);
-        else if (c) refused[c]++;
-        else same_reading(t, 20);
+        if (c != number)
+            fault("%s: answer %u, not %u", what, c, number);
+        else if (c)
+            refused[c]++;
+        else
+            same_reading(t, 20);
     }
     must(leveldb::DestroyDB(dir, o), "destroy");
 }
@@ -531,7 +554,8 @@ static void damage_with(const string &t, const string &changed, const vector<Pai
     passed++;
     if (walk(changed) != all) fault("a damaged table passes and reads otherwise");
     // What is neither under a checksum nor read are the zeros of the footer, and there a number can go on into them.
-    if (changed.size() != t.size() || changed.compare(0, t.size() - 48, t, 0, t.size() - 48)) fault("a table damaged before its footer passes");
+    if (changed.size() != t.size() || changed.compare(0, t.size() - 48, t, 0, t.size() - 48))
+        fault("a table damaged before its footer passes");
 }
 
 static void damage() {
@@ -561,7 +585,8 @@ static void damage() {
         for (int i = 0; i < 200; i++) {
             string c = t;
             size_t from = upto(3) ? 0 : t.size() - std::min<size_t>(t.size(), 3000); // at times near the end, where index and footer are
-            for (size_t n = 1 + (upto(2) ? 0 : upto(9)); n > 0; n--) c[from + upto(t.size() - 1 - from)] ^= (char)(upto(1) ? 1 << upto(7) : 1 + upto(254));
+            for (size_t n = 1 + (upto(2) ? 0 : upto(9)); n > 0; n--)
+                c[from + upto(t.size() - 1 - from)] ^= (char)(upto(1) ? 1 << upto(7) : 1 + upto(254));
             damage_with(t, c, all, false);
             damage_with(t, t.substr(0, upto(t.size() - 1)), all, true);
         }
@@ -577,8 +602,13 @@ struct Runs {
     explicit Runs(size_t room) {
         for (auto &b : bytes) b.resize(room);
         for (auto &n : numbers) n.resize(room / 4 + 1);
-        lent = {bytes[0].data(), room, bytes[1].data(), room, bytes[2].data(), room, numbers[0].data(), numbers[0].size(), numbers[1].data(), numbers[1].size(),
-                numbers[2].data(), numbers[2].size(), numbers[3].data(), numbers[3].size()};
+        lent = {bytes[0].data(),   room,
+                bytes[1].data(),   room,
+                bytes[2].data(),   room,
+                numbers[0].data(), numbers[0].size(),
+                numbers[1].data(), numbers[1].size(),
+                numbers[2].data(), numbers[2].size(),
+                numbers[3].data(), numbers[3].size()};
     }
 };
 
@@ -587,7 +617,8 @@ static string our_table(Runs &runs, const Setting &s, const vector<Pair> &all) {
     for (const Pair &p : all) {
         if (b.answer) break;
         Slice word = word_of(p.first);
-        b = salevoni_add(b.state, SALEVONI_RUNS(runs.lent), (const uint8_t *)word.data(), word.size(), tag_of(p.first) / 256, tag_of(p.first) % 256, at(p.second), p.second.size());
+        b = salevoni_add(b.state, SALEVONI_RUNS(runs.lent), (const uint8_t *)word.data(), word.size(), tag_of(p.first) / 256,
+                         tag_of(p.first) % 256, at(p.second), p.second.size());
     }
     if (!b.answer) b = salevoni_finish(b.state, SALEVONI_RUNS(runs.lent));
     if (b.answer) fault("our builder answers %u", b.answer);
@@ -604,7 +635,8 @@ static void repair(const vector<string> &tables, const vector<Pair> &all, int bi
     leveldb::Env *env = leveldb::Env::Default();
     string dir = folder + "/ours" + std::to_string(repaired);
     must(env->CreateDir(dir), "folder");
-    for (size_t i = 0; i < tables.size(); i++) must(leveldb::WriteStringToFile(env, tables[i], dir + "/00000" + std::to_string(i + 3) + ".ldb"), "write");
+    for (size_t i = 0; i < tables.size(); i++)
+        must(leveldb::WriteStringToFile(env, tables[i], dir + "/00000" + std::to_string(i + 3) + ".ldb"), "write");
     must(leveldb::RepairDB(dir, o), "repair");
     vector<string> left = tables_in(dir), given = tables;
     std::sort(left.begin(), left.end());
@@ -624,7 +656,8 @@ static void repair(const vector<string> &tables, const vector<Pair> &all, int bi
         string value;
         Status s = db->Get(r, w, &value);
         auto e = expected.find(w);
-        if (e == expected.end() ? !s.IsNotFound() : !s.ok() || value != e->second) fault("a database of our tables says %s of a word", s.ToString().c_str());
+        if (e == expected.end() ? !s.IsNotFound() : !s.ok() || value != e->second)
+            fault("a database of our tables says %s of a word", s.ToString().c_str());
         string other = w + "!";
         if (!words.count(other) && !db->Get(r, other, &value).IsNotFound()) fault("a database of our tables finds an absent word");
         words_got++;
@@ -669,16 +702,18 @@ int main(int, char **args) {
     printf("judge: %ld databases, %ld views of %ld words\n", databases, views, words_viewed);
     own_builder(4000);
     refusals();
-    printf("judge: %ld tables of LevelDB's (%ld MB) pass and read alike: %ld entries, %ld seeks, %ld lookups\n", tables_read, bytes_read >> 20, entries_read, seeks_made, lookups_made);
+    printf("judge: %ld tables of LevelDB's (%ld MB) pass and read alike: %ld entries, %ld seeks, %ld lookups\n", tables_read,
+           bytes_read >> 20, entries_read, seeks_made, lookups_made);
     printf("judge: refused as they have to be:");
     for (auto &r : refused) printf(" %ld with %u", r.second, r.first);
     printf("\n");
     damage();
-    printf("judge: %ld damaged and %ld cut copies of %zu tables; the %ld that pass read as before\n", damaged, cut, samples.size() + large.size(), passed);
+    printf("judge: %ld damaged and %ld cut copies of %zu tables; the %ld that pass read as before\n", damaged, cut,
+           samples.size() + large.size(), passed);
     tables_read = entries_read = seeks_made = lookups_made = bytes_read = 0;
     ours(2000);
-    printf("judge: %ld tables of ours (%ld MB) read alike by LevelDB: %ld entries, %ld seeks; %ld databases made of them, %ld words got\n", ours_read, bytes_read >> 20, entries_read, seeks_made,
-           repaired, words_got);
+    printf("judge: %ld tables of ours (%ld MB) read alike by LevelDB: %ld entries, %ld seeks; %ld databases made of them, %ld words got\n",
+           ours_read, bytes_read >> 20, entries_read, seeks_made, repaired, words_got);
     if (faults) printf("judge: %ld faults\n", faults);
     return faults > 0;
 }

@@ -8,6 +8,7 @@ use crate::key_types;
 use crate::options::Options;
 use crate::ours::{self, Runs};
 use crate::rules::{self, Item};
+use crate::table_builder::TableBuilder;
 use crate::tables::hex;
 use crate::text;
 use crate::types::LdbIterator;
@@ -15,15 +16,22 @@ use std::rc::Rc;
 
 /// "00:1d=2" is the word 00 at edition 1, a deletion, with a value of 2 bytes.
 fn items(s: &str) -> Vec<Item> {
-    s.split_whitespace().map(|i| {
-        let (word, rest) = i.split_once(':').unwrap();
-        let (rest, size) = rest.split_once('=').unwrap_or((rest, "0"));
-        let word = match word.split_once('x') {
-            Some((byte, n)) => vec![u8::from_str_radix(byte, 16).unwrap(); n.parse().unwrap()],
-            None => (0..word.len()).step_by(2).map(|n| u8::from_str_radix(&word[n..n + 2], 16).unwrap()).collect(),
-        };
-        Item { word, edition: rest.trim_end_matches('d').parse().unwrap(), kind: !rest.ends_with('d') as u8, value: vec![0; size.parse().unwrap()] }
-    }).collect()
+    s.split_whitespace()
+        .map(|i| {
+            let (word, rest) = i.split_once(':').unwrap();
+            let (rest, size) = rest.split_once('=').unwrap_or((rest, "0"));
+            let word = match word.split_once('x') {
+                Some((byte, n)) => vec![u8::from_str_radix(byte, 16).unwrap(); n.parse().unwrap()],
+                None => (0..word.len()).step_by(2).map(|n| u8::from_str_radix(&word[n..n + 2], 16).unwrap()).collect(),
+            };
+            Item {
+                word,
+                edition: rest.trim_end_matches('d').parse().unwrap(),
+                kind: !rest.ends_with('d') as u8,
+                value: vec![0; size.parse().unwrap()],
+            }
+        })
+        .collect()
 }
 
 fn said<T>(r: Result<T, String>, show: impl FnOnce(T) -> String) -> String {
@@ -115,10 +123,18 @@ pub fn all(runs: &mut Runs, tally: &mut Tally) {
     rows.row("separator that is the next key", sep(&[0], &[0, 0]), "0000", hex(&ours::separator(&[0], &[0, 0])), "00");
     rows.row("separator of an empty key", sep(&[], &[0]), "panics in cmp.rs", hex(&ours::separator(&[], &[0])), "");
     rows.row("separator of a key above the next", sep(&[0], &[]), "0000", hex(&ours::separator(&[0], &[])), "00");
-    rows.row("separator of a key above the next, a panic", sep(&[1, 0], &[0, 2]), "panics in cmp.rs", hex(&ours::separator(&[1, 0], &[0, 2])), "0100");
+    rows.row(
+        "separator of a key above the next, a panic",
+        sep(&[1, 0], &[0, 2]),
+        "panics in cmp.rs",
+        hex(&ours::separator(&[1, 0], &[0, 2])),
+        "0100",
+    );
 
     // index keys
-    let keys = |spec: &str, n, b: &mut dyn FnMut(usize, usize, Option<u32>, &str) -> Result<Vec<u8>, (usize, u32)>| (index_key(&build(&plain(8), spec).0, n), index_key(&b(8, 16, None, spec).unwrap(), n));
+    let keys = |spec: &str, n, b: &mut dyn FnMut(usize, usize, Option<u32>, &str) -> Result<Vec<u8>, (usize, u32)>| {
+        (index_key(&build(&plain(8), spec).0, n), index_key(&b(8, 16, None, spec).unwrap(), n))
+    };
     for (what, spec, text_key, our_key) in [
         ("index key of the last block", "00:0", "0000:0", "00:0"),
         ("index key not shorter", "00:0 01:0", "0000:0", "00:0"),
@@ -131,26 +147,104 @@ pub fn all(runs: &mut Runs, tally: &mut Tally) {
     let spec = "00:0 0000:0";
     let t = build(&plain(8), spec).0;
     rows.row("table that answers 11", checked(&t), "check 11", checked(&built(8, 16, None, spec).unwrap()), "check 0");
-    rows.row("an entry that its own get misses", get(&bloom, &t, &[0, 0], 0), "none", found(ours::lookup(&built(8, 16, None, spec).unwrap(), &[0, 0], 0).1), "0000:0");
+    rows.row(
+        "an entry that its own get misses",
+        get(&bloom, &t, &[0, 0], 0),
+        "none",
+        found(ours::lookup(&built(8, 16, None, spec).unwrap(), &[0, 0], 0).1),
+        "0000:0",
+    );
     let spec = "00:0 0000:1 0000:0";
-    rows.row("panic while building", said(build(&plain(8), spec).1, |n| n.to_string()), "panics in block_builder.rs", refusal(built(8, 16, None, spec)), "built");
+    rows.row(
+        "panic while building",
+        said(build(&plain(8), spec).1, |n| n.to_string()),
+        "panics in block_builder.rs",
+        refusal(built(8, 16, None, spec)),
+        "built",
+    );
     let spec = "00:0=2 0000:1 0000:0";
     let t = build(&plain(21), spec).0;
     let mut it = text::reader(&plain(21), &t).iter();
     it.seek(&rules::internal(&[0, 0], 0, 1));
-    rows.row("a seek of its own that gives an entry below the target", found(it.current().map(|(k, v)| (k.to_vec(), v.to_vec()))), "0000:1", found(ours::seek(&built(21, 16, None, spec).unwrap(), &[0, 0], 0).1), "0000:0");
+    rows.row(
+        "a seek of its own that gives an entry below the target",
+        found(it.current().map(|(k, v)| (k.to_vec(), v.to_vec()))),
+        "0000:1",
+        found(ours::seek(&built(21, 16, None, spec).unwrap(), &[0, 0], 0).1),
+        "0000:0",
+    );
     let spec = "ffx1024:0";
-    rows.row("index key of 1,033 bytes", checked(&build(&plain(8), spec).0), "check 10", checked(&built(8, 16, None, spec).unwrap()), "check 0");
+    rows.row(
+        "index key of 1,033 bytes",
+        checked(&build(&plain(8), spec).0),
+        "check 10",
+        checked(&built(8, 16, None, spec).unwrap()),
+        "check 0",
+    );
 
     // additions outside the limits or the order
-    let after = |spec: &str| { let (t, r) = build(&plain(8), spec); said(r, |_| checked(&t)) };
-    rows.row("the same key again after a cut", after("00:0 00:0"), "check 11", refusal(built(8, 16, None, "00:0 00:0")), "call 2 answers 4");
-    rows.row("the same key again in a block", said(build(&plain(20), "00:0 00:0").1, |n| n.to_string()), "panics in block_builder.rs", refusal(built(20, 16, None, "00:0 00:0")), "call 2 answers 4");
-    rows.row("a falling key after a cut", after("01:0 00:0"), "panics in block_builder.rs", refusal(built(8, 16, None, "01:0 00:0")), "call 2 answers 4");
-    rows.row("an empty word", after(":0"), "panics in cmp.rs", refusal(built(8, 16, None, ":0")), "call 1 answers 3");
-    rows.row("a word of 1,025 bytes", after("00x1025:0"), "check 10", refusal(built(8, 16, None, "00x1025:0")), "call 1 answers 3");
-    rows.row("a value of 32,769 bytes", after("00:0=32769"), "check 10", refusal(built(8, 16, None, "00:0=32769")), "call 1 answers 3");
-    rows.row("interval 0", { let (t, r) = build(&text::options(8, 0, None), "00:0"); said(r, |_| checked(&t)) }, "check 10", refusal(built(8, 0, None, "00:0")), "call 0 answers 1");
+    let after = |spec: &str| {
+        let (mut out, mut adding) = (vec![], true);
+        let done = caught(|| {
+            let mut b = TableBuilder::new(plain(8), &mut out);
+            for i in items(spec) {
+                b.add(&i.key(), &i.value).unwrap();
+            }
+            adding = false;
+            b.finish().unwrap()
+        });
+        match done {
+            Ok(_) => format!("accepted; {}", checked(&out)),
+            Err(place) if adding => format!("panics in {place}"),
+            Err(place) => format!("accepted; panics in {place}"),
+        }
+    };
+    rows.row(
+        "the same key again after a cut",
+        after("00:0 00:0"),
+        "accepted; check 11",
+        refusal(built(8, 16, None, "00:0 00:0")),
+        "call 2 answers 4",
+    );
+    rows.row(
+        "the same key again in a block",
+        said(build(&plain(20), "00:0 00:0").1, |n| n.to_string()),
+        "panics in block_builder.rs",
+        refusal(built(20, 16, None, "00:0 00:0")),
+        "call 2 answers 4",
+    );
+    rows.row(
+        "a falling key after a cut",
+        after("01:0 00:0"),
+        "accepted; panics in block_builder.rs",
+        refusal(built(8, 16, None, "01:0 00:0")),
+        "call 2 answers 4",
+    );
+    rows.row("an empty word", after(":0"), "accepted; panics in cmp.rs", refusal(built(8, 16, None, ":0")), "call 1 answers 3");
+    rows.row(
+        "a word of 1,025 bytes",
+        after("00x1025:0"),
+        "accepted; check 10",
+        refusal(built(8, 16, None, "00x1025:0")),
+        "call 1 answers 3",
+    );
+    rows.row(
+        "a value of 32,769 bytes",
+        after("00:0=32769"),
+        "accepted; check 10",
+        refusal(built(8, 16, None, "00:0=32769")),
+        "call 1 answers 3",
+    );
+    rows.row(
+        "interval 0",
+        {
+            let (t, r) = build(&text::options(8, 0, None), "00:0");
+            said(r, |_| format!("restarts {:?}, {}", rules::block(rules::part(&t, rules::index(&t)[0].1)).restarts, checked(&t)))
+        },
+        "restarts [0, 0], check 10",
+        refusal(built(8, 0, None, "00:0")),
+        "call 0 answers 1",
+    );
 
     // gets
     let t = built(8, 16, Some(10), "00:0").unwrap();
@@ -163,19 +257,37 @@ pub fn all(runs: &mut Runs, tally: &mut Tally) {
     rows.row("a filter of another name", get(&bloom, &t, &[0], 0), "none", found(ours::lookup(&t, &[0], 0).1), "00:0");
 
     // filters
-    rows.row("filter of no keys", hex(&BloomPolicy::new(10).create_filter(&[], &[])), "000000000000000006", hex(&ours::filter(10, &[])), "");
+    rows.row(
+        "filter of no keys",
+        hex(&BloomPolicy::new(10).create_filter(&[], &[])),
+        "000000000000000006",
+        hex(&ours::filter(10, &[])),
+        "",
+    );
     let may = |f: &[u8]| said(caught(|| BloomPolicy::new(10).key_may_match(&[], f)), |m| m.to_string());
     rows.row("filter of one byte", may(&[1]), "panics in filter.rs", ours::may_match(&[1], &[]).to_string(), "true");
-    let ask = |s: &[u8]| said(caught(|| FilterBlockReader::new_owned(text::policy(Some(10)), s.to_vec()).key_may_match(0, &[])), |m| m.to_string());
+    let ask = |s: &[u8]| {
+        said(caught(|| FilterBlockReader::new_owned(text::policy(Some(10)), s.to_vec()).key_may_match(0, &[])), |m| m.to_string())
+    };
     let s = FilterBlockBuilder::new(text::policy(Some(10))).finish();
-    rows.row("filter number equal to the count", ask(&s), "panics in filter_block.rs", ours::block_may_match(&s, 0, &[]).to_string(), "true");
+    rows.row(
+        "filter number equal to the count",
+        ask(&s),
+        "panics in filter_block.rs",
+        ours::block_may_match(&s, 0, &[]).to_string(),
+        "true",
+    );
     let mut b = FilterBlockBuilder::new(text::policy(Some(10)));
     b.start_block(2048);
     let s = b.finish();
     rows.row("empty filter in a filter block", ask(&s), "panics in filter_block.rs", ours::block_may_match(&s, 0, &[]).to_string(), "true");
 
     // damage and other files
-    let open = |t: &[u8]| said(caught(|| text::walk(text::reader(&bloom, t).iter()).len()), |n| format!("{n} entries"));
+    let open = |t: &[u8]| {
+        said(caught(|| text::walk(text::reader(&bloom, t).iter())), |all| {
+            all.into_iter().map(|p| found(Some(p))).collect::<Vec<_>>().join(" ")
+        })
+    };
     rows.row("no bytes", open(&[]), "panics in table_reader.rs", checked(&[]), "check 7");
     rows.row("another magic", open(&[0; 48]), "panics in table_builder.rs", checked(&[0; 48]), "check 7");
     let mut t = build(&bloom, "00:0").0;
@@ -186,24 +298,43 @@ pub fn all(runs: &mut Runs, tally: &mut Tally) {
     rows.row("damage in the filter block", get(&bloom, &t, &[0], 0), "none", checked(&t), "check 9");
     let mut t = build(&bloom, "00:0 01:0").0;
     t[3] ^= 1;
-    rows.row("damage in a data block", open(&t), "1 entries", checked(&t), "check 9");
+    rows.row("damage in a data block", open(&t), "01:0", checked(&t), "check 9");
     let t = build(&Options { compressor: 1, ..plain(8) }, "00:0").0;
-    rows.row("a compressed block", open(&t), "1 entries", checked(&t), "check 9");
+    rows.row("a compressed block", open(&t), "00:0", checked(&t), "check 9");
     let key = rules::internal(&[0], 0, 1);
     let data = text::data_block(16, &[(key.clone(), vec![])]);
     let t = by_hand(&data, &key, &[0], |_| vec![]);
-    rows.row("a byte after a handle in the index", open(&t), "1 entries", checked(&t), "check 10");
+    rows.row("a byte after a handle in the index", open(&t), "00:0", checked(&t), "check 10");
     let t = by_hand(&[&[1, 9, 0][..], &key, &[0, 0, 0, 0, 1, 0, 0, 0]].concat(), &key, &[], |_| vec![]);
-    rows.row("shared longer than the key before", open(&t), "1 entries", checked(&t), "check 10");
-    let t = by_hand(&data, &key, &[], |_| vec![(b"filter.leveldb.BuiltinBloomFilter2".to_vec(), vec![0, 0])]);
-    rows.row("a filter block of size 0", open(&t), "1 entries", checked(&t), "check 9");
+    rows.row("shared longer than the key before", open(&t), "00:0", checked(&t), "check 10");
+    let t = by_hand(&data, &key, &[], |out| vec![(b"filter.leveldb.BuiltinBloomFilter2".to_vec(), sealed(out, &[]))]);
+    rows.row("a filter block of size 0", open(&t), "00:0", checked(&t), "check 12");
     let mut b = BlockBuilder::new(text::by_points(plain(8)));
     b.reset();
     b.add(&key, &[]);
-    let t = by_hand(&b.finish(), &key, &[], |_| vec![]);
-    rows.row("BlockBuilder::reset", open(&t), "1 entries", checked(&t), "check 10");
+    let block = b.finish();
+    let t = by_hand(&block, &key, &[], |_| vec![]);
+    rows.row(
+        "BlockBuilder::reset",
+        format!("restarts {:?}, {}", rules::block(&block).restarts, checked(&t)),
+        "restarts [], check 10",
+        String::new(),
+        "",
+    );
 
     // keys too short for a tag: ours are never asked, their word and edition are given apart
-    rows.row("parse_internal_key of 7 bytes", said(caught(|| key_types::parse_internal_key(&[0; 7]).1), |n| n.to_string()), "panics in key_types.rs", String::new(), "");
-    rows.row("cmp_internal_key of 7 bytes", said(caught(|| key_types::cmp_internal_key(&DefaultCmp, &[0; 7], &[0; 8])), |o| format!("{o:?}")), "panics in key_types.rs", String::new(), "");
+    rows.row(
+        "parse_internal_key of 7 bytes",
+        said(caught(|| key_types::parse_internal_key(&[0; 7]).1), |n| n.to_string()),
+        "panics in key_types.rs",
+        String::new(),
+        "",
+    );
+    rows.row(
+        "cmp_internal_key of 7 bytes",
+        said(caught(|| key_types::cmp_internal_key(&DefaultCmp, &[0; 7], &[0; 8])), |o| format!("{o:?}")),
+        "panics in key_types.rs",
+        String::new(),
+        "",
+    );
 }

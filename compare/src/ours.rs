@@ -100,26 +100,75 @@ pub struct Footer {
 extern "C" {
     fn salevoni_check(table: *const u8, len: usize) -> u32;
     fn salevoni_seek(table: *const u8, len: usize, word: *const u8, word_len: usize, edition: u64, key: *mut u8, key_size: usize) -> Entry;
-    fn salevoni_lookup(table: *const u8, len: usize, word: *const u8, word_len: usize, edition: u64, key: *mut u8, key_size: usize) -> Entry;
+    fn salevoni_lookup(
+        table: *const u8,
+        len: usize,
+        word: *const u8,
+        word_len: usize,
+        edition: u64,
+        key: *mut u8,
+        key_size: usize,
+    ) -> Entry;
     fn salevoni_step(table: *const u8, len: usize, index: usize, entry: usize, key: *mut u8, key_size: usize) -> Entry;
     fn salevoni_start(
-        block_size: usize, interval: usize, filter: u32, bits: u32,
-        out: *mut u8, out_len: usize, index: *mut u8, index_len: usize, filters: *mut u8, filters_len: usize,
-        restarts: *mut u32, restarts_len: usize, index_restarts: *mut u32, index_restarts_len: usize,
-        offsets: *mut u32, offsets_len: usize, hashes: *mut u32, hashes_len: usize,
+        block_size: usize,
+        interval: usize,
+        filter: u32,
+        bits: u32,
+        out: *mut u8,
+        out_len: usize,
+        index: *mut u8,
+        index_len: usize,
+        filters: *mut u8,
+        filters_len: usize,
+        restarts: *mut u32,
+        restarts_len: usize,
+        index_restarts: *mut u32,
+        index_restarts_len: usize,
+        offsets: *mut u32,
+        offsets_len: usize,
+        hashes: *mut u32,
+        hashes_len: usize,
     ) -> Built;
     fn salevoni_add(
         state: State,
-        out: *mut u8, out_len: usize, index: *mut u8, index_len: usize, filters: *mut u8, filters_len: usize,
-        restarts: *mut u32, restarts_len: usize, index_restarts: *mut u32, index_restarts_len: usize,
-        offsets: *mut u32, offsets_len: usize, hashes: *mut u32, hashes_len: usize,
-        word: *const u8, word_len: usize, edition: u64, kind: u8, value: *const u8, value_len: usize,
+        out: *mut u8,
+        out_len: usize,
+        index: *mut u8,
+        index_len: usize,
+        filters: *mut u8,
+        filters_len: usize,
+        restarts: *mut u32,
+        restarts_len: usize,
+        index_restarts: *mut u32,
+        index_restarts_len: usize,
+        offsets: *mut u32,
+        offsets_len: usize,
+        hashes: *mut u32,
+        hashes_len: usize,
+        word: *const u8,
+        word_len: usize,
+        edition: u64,
+        kind: u8,
+        value: *const u8,
+        value_len: usize,
     ) -> Built;
     fn salevoni_finish(
         state: State,
-        out: *mut u8, out_len: usize, index: *mut u8, index_len: usize, filters: *mut u8, filters_len: usize,
-        restarts: *mut u32, restarts_len: usize, index_restarts: *mut u32, index_restarts_len: usize,
-        offsets: *mut u32, offsets_len: usize, hashes: *mut u32, hashes_len: usize,
+        out: *mut u8,
+        out_len: usize,
+        index: *mut u8,
+        index_len: usize,
+        filters: *mut u8,
+        filters_len: usize,
+        restarts: *mut u32,
+        restarts_len: usize,
+        index_restarts: *mut u32,
+        index_restarts_len: usize,
+        offsets: *mut u32,
+        offsets_len: usize,
+        hashes: *mut u32,
+        hashes_len: usize,
     ) -> Built;
     fn salevoni_footer(table: *const u8, len: usize) -> Footer;
     fn salevoni_crc(crc: u32, bytes: *const u8, len: usize) -> u32;
@@ -131,16 +180,52 @@ extern "C" {
     fn salevoni_probes(bits: u32) -> u32;
     fn salevoni_filter(bits: u32, hashes: *const u32, hashes_len: usize, out: *mut u8, out_len: usize) -> Size;
     fn salevoni_filter_may(filter: *const u8, len: usize, hash: u32) -> u32;
-    fn salevoni_filter_block_add(bits: u32, hashes: *const u32, hashes_len: usize, count: usize, filters: *mut u8, filters_len: usize, bytes: usize, offsets: *mut u32, offsets_len: usize, made: usize) -> Filters;
-    fn salevoni_filter_block_finish(filters: *const u8, filters_len: usize, offsets: *const u32, offsets_len: usize, out: *mut u8, out_len: usize) -> Size;
+    fn salevoni_filter_block_add(
+        bits: u32,
+        hashes: *const u32,
+        hashes_len: usize,
+        count: usize,
+        filters: *mut u8,
+        filters_len: usize,
+        bytes: usize,
+        offsets: *mut u32,
+        offsets_len: usize,
+        made: usize,
+    ) -> Filters;
+    fn salevoni_filter_block_finish(
+        filters: *const u8,
+        filters_len: usize,
+        offsets: *const u32,
+        offsets_len: usize,
+        out: *mut u8,
+        out_len: usize,
+    ) -> Size;
     fn salevoni_filter_block_may(block: *const u8, len: usize, offset: usize, hash: u32) -> u32;
     fn salevoni_block_start(interval: usize) -> Block;
-    fn salevoni_block_add(block: Block, out: *mut u8, out_len: usize, restarts: *mut u32, restarts_len: usize, key: *const u8, key_len: usize, value: *const u8, value_len: usize) -> BlockAdded;
+    fn salevoni_block_add(
+        block: Block,
+        out: *mut u8,
+        out_len: usize,
+        restarts: *mut u32,
+        restarts_len: usize,
+        key: *const u8,
+        key_len: usize,
+        value: *const u8,
+        value_len: usize,
+    ) -> BlockAdded;
     fn salevoni_block_finish(block: Block, out: *mut u8, out_len: usize, restarts: *const u32, restarts_len: usize) -> Size;
     fn salevoni_block_check(block: *const u8, len: usize, kind: u32) -> u32;
     fn salevoni_block_first(block: *const u8, len: usize, key: *mut u8, key_len: usize) -> Row;
     fn salevoni_block_after(block: *const u8, len: usize, start: usize, key: *mut u8, key_len: usize) -> Row;
-    fn salevoni_block_seek(block: *const u8, len: usize, word: *const u8, word_len: usize, edition: u64, key: *mut u8, key_len: usize) -> Row;
+    fn salevoni_block_seek(
+        block: *const u8,
+        len: usize,
+        word: *const u8,
+        word_len: usize,
+        edition: u64,
+        key: *mut u8,
+        key_len: usize,
+    ) -> Row;
 }
 
 pub type Pair = (Vec<u8>, Vec<u8>);
@@ -305,7 +390,20 @@ pub fn filter_block(bits: u32, steps: &[(Vec<Vec<u8>>, usize)], last: &[Vec<u8>]
     let mut now = Filters { answer: 0, bytes: 0, made: 0 };
     let mut hashes = vec![];
     let mut make = |hashes: &mut Vec<u32>, now: Filters, count: usize| {
-        let next = unsafe { salevoni_filter_block_add(bits, hashes.as_ptr(), hashes.len(), count, filters.as_mut_ptr(), filters.len(), now.bytes, offsets.as_mut_ptr(), offsets.len(), now.made) };
+        let next = unsafe {
+            salevoni_filter_block_add(
+                bits,
+                hashes.as_ptr(),
+                hashes.len(),
+                count,
+                filters.as_mut_ptr(),
+                filters.len(),
+                now.bytes,
+                offsets.as_mut_ptr(),
+                offsets.len(),
+                now.made,
+            )
+        };
         assert_eq!(next.answer, 0);
         if next.made > now.made {
             hashes.clear();
@@ -320,7 +418,9 @@ pub fn filter_block(bits: u32, steps: &[(Vec<Vec<u8>>, usize)], last: &[Vec<u8>]
     if !hashes.is_empty() {
         now = make(&mut hashes, now, now.made + 1);
     }
-    written(now.bytes + 4 * now.made + 20, |o, n| unsafe { salevoni_filter_block_finish(filters.as_ptr(), now.bytes, offsets.as_ptr(), now.made, o, n) })
+    written(now.bytes + 4 * now.made + 20, |o, n| unsafe {
+        salevoni_filter_block_finish(filters.as_ptr(), now.bytes, offsets.as_ptr(), now.made, o, n)
+    })
 }
 
 pub fn block_may_match(block: &[u8], offset: usize, key: &[u8]) -> bool {

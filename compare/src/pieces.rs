@@ -69,12 +69,16 @@ fn internal_separator(a: &[u8], b: &[u8], t: &mut Tally) {
     let ours = ours::internal_separator(a, b);
     hold(ours == rules::separator(a, b), || format!("our internal separator of {} and {}", tables::hex(a), tables::hex(b)));
     let theirs = caught(|| InternalKeyCmp(Rc::new(Box::new(DefaultCmp))).find_shortest_sep(a, b));
-    hold(theirs == Ok(rules::text_separator(a, Some(b))), || format!("internal separator of {} and {} by the text: {theirs:x?}", tables::hex(a), tables::hex(b)));
+    hold(theirs == Ok(rules::text_separator(a, Some(b))), || {
+        format!("internal separator of {} and {} by the text: {theirs:x?}", tables::hex(a), tables::hex(b))
+    });
     let theirs = theirs.unwrap_or_default();
     if theirs == ours {
         t.same("keys/internal separators", 1);
     } else if rules::word(a) == rules::word(b) {
-        hold(rules::tag(a) % 256 == 0 && theirs == rules::internal(rules::word(a), rules::edition(a), 1), || "internal separator of two versions".into());
+        hold(rules::tag(a) % 256 == 0 && theirs == rules::internal(rules::word(a), rules::edition(a), 1), || {
+            "internal separator of two versions".into()
+        });
         t.listed("index key of a deletion");
     } else if rules::word(&theirs) == rules::word(b) {
         t.listed("index key with the next key's word");
@@ -104,7 +108,11 @@ pub fn keys(part: usize, parts: usize, t: &mut Tally) {
             }
         }
     }
-    let few: Vec<Vec<u8>> = strings(&LETTERS, 2).into_iter().skip(1).flat_map(|w| [(0, 0), (0, 1), (1, 0), (1, 1), (7, 1), (rules::EDITION_MAX, 1)].map(|(e, k)| rules::internal(&w, e, k))).collect();
+    let few: Vec<Vec<u8>> = strings(&LETTERS, 2)
+        .into_iter()
+        .skip(1)
+        .flat_map(|w| [(0, 0), (0, 1), (1, 0), (1, 1), (7, 1), (rules::EDITION_MAX, 1)].map(|(e, k)| rules::internal(&w, e, k)))
+        .collect();
     for a in few.iter().skip(part).step_by(parts) {
         for b in &few {
             if rules::order(a, b).is_lt() {
@@ -160,9 +168,16 @@ pub fn filters(part: usize, parts: usize, t: &mut Tally) {
         t.same("filters/numbers of probes", 1);
         let policy = BloomPolicy::new(bits);
         for count in (1..=70).chain([100, 127, 128, 200, 255, 256, 500, 1000, 2000]) {
-            let words: Vec<Vec<u8>> = (0..count).map(|_| if count > 70 { r.next().to_le_bytes().to_vec() } else { some_key(&mut r) }).collect();
+            let words: Vec<Vec<u8>> =
+                (0..count).map(|_| if count > 70 { r.next().to_le_bytes().to_vec() } else { some_key(&mut r) }).collect();
             let mut at = 0;
-            let offsets: Vec<usize> = words.iter().map(|w| { at += w.len(); at - w.len() }).collect();
+            let offsets: Vec<usize> = words
+                .iter()
+                .map(|w| {
+                    at += w.len();
+                    at - w.len()
+                })
+                .collect();
             let theirs = policy.create_filter(&words.concat(), &offsets);
             let ours = ours::filter(bits, &words);
             hold(ours == theirs, || format!("filter of {count} keys at {bits} bits"));
@@ -197,7 +212,12 @@ pub fn filter_blocks(part: usize, parts: usize, t: &mut Tally) {
         let mut steps: Vec<(Vec<Vec<u8>>, usize)> = vec![];
         for _ in 0..r.within(0, 8) {
             let count = if r.one_in(5) { 0 } else { r.within(1, 12) };
-            let words = (0..count).map(|_| { let n = r.within(1, 9); r.bytes(n) }).collect();
+            let words = (0..count)
+                .map(|_| {
+                    let n = r.within(1, 9);
+                    r.bytes(n)
+                })
+                .collect();
             offset += match r.within(0, 3) {
                 0 => r.within(1, 100),
                 1 => r.within(1, 2047),
@@ -206,7 +226,12 @@ pub fn filter_blocks(part: usize, parts: usize, t: &mut Tally) {
             };
             steps.push((words, offset));
         }
-        let last: Vec<Vec<u8>> = (0..r.within(0, 3)).map(|_| { let n = r.within(1, 9); r.bytes(n) }).collect();
+        let last: Vec<Vec<u8>> = (0..r.within(0, 3))
+            .map(|_| {
+                let n = r.within(1, 9);
+                r.bytes(n)
+            })
+            .collect();
         let mut b = FilterBlockBuilder::new(text::policy(Some(bits)));
         for (words, offset) in &steps {
             words.iter().for_each(|w| b.add_key(w));

@@ -169,10 +169,14 @@ pub fn part<'a>(t: &'a [u8], h: Handle) -> &'a [u8] {
 
 pub fn index(t: &[u8]) -> Vec<(Vec<u8>, Handle)> {
     let parsed = block(part(t, footer(t).1));
-    parsed.pairs.into_iter().map(|(key, value)| {
-        let mut at = 0;
-        let h = handle(&value, &mut at);
-        assert_eq!(at, value.len());
-        (key, h)
-    }).collect()
+    parsed
+        .pairs
+        .into_iter()
+        .map(|(key, value)| {
+            let mut at = 0;
+            let h = handle(&value, &mut at);
+            assert_eq!(at, value.len());
+            (key, h)
+        })
+        .collect()
 }

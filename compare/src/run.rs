@@ -43,7 +43,12 @@ pub fn run() -> bool {
         t.join(w.join().expect("a worker ended early"));
     }
     for group in ["keys", "filters", "blocks", "tables", "reads", "differences"] {
-        let counts = |all: &std::collections::BTreeMap<&str, u64>, group: &str| all.iter().filter_map(|(what, n)| what.strip_prefix(group).map(|w| format!("{n} {}", w.trim_start_matches('/')))).collect::<Vec<_>>().join(", ");
+        let counts = |all: &std::collections::BTreeMap<&str, u64>, group: &str| {
+            all.iter()
+                .filter_map(|(what, n)| what.strip_prefix(group).map(|w| format!("{n} {}", w.trim_start_matches('/'))))
+                .collect::<Vec<_>>()
+                .join(", ")
+        };
         println!("compare: {group}: {}", counts(&t.same, group));
         if group == "differences" {
             println!("compare: as docs/DIFFERENCES.md lists them: {}", counts(&t.listed, ""));

@@ -148,7 +148,16 @@ fn some_target(r: &mut Rng, items: &[Item]) -> (Vec<u8>, u64) {
 }
 
 /// Both readers over a table that passes and holds the items.
-fn read_both(r: &mut Rng, opt: &Options, t: &[u8], items: &[Item], bits: Option<u32>, whose: &'static str, index: &[Vec<u8>], tally: &mut Tally) {
+fn read_both(
+    r: &mut Rng,
+    opt: &Options,
+    t: &[u8],
+    items: &[Item],
+    bits: Option<u32>,
+    whose: &'static str,
+    index: &[Vec<u8>],
+    tally: &mut Tally,
+) {
     let all = pairs(items);
     let (ours, end) = ours::walk(t);
     hold(ours == all && end == 100, || format!("our walk over a table of {whose}: {} of {} entries, then {end}", ours.len(), all.len()));
@@ -174,9 +183,13 @@ fn read_both(r: &mut Rng, opt: &Options, t: &[u8], items: &[Item], bits: Option<
         // get: the text's answer is looked at as its caller has to.
         let (entry, pair) = ours::lookup(t, &w, e);
         let expected = items.get(at).filter(|i| i.word == w);
-        hold(pair.as_ref() == expected.map(|_| &all[at]) && entry.answer == expected.map_or(100, |i| if i.kind == 0 { 101 } else { 0 }), || format!("our lookup in a table of {whose}"));
+        hold(
+            pair.as_ref() == expected.map(|_| &all[at]) && entry.answer == expected.map_or(100, |i| if i.kind == 0 { 101 } else { 0 }),
+            || format!("our lookup in a table of {whose}"),
+        );
         let reader = if bits.is_none() { &unasked } else { &table };
-        let got = caught(|| reader.get(&target).unwrap().map(|(k, v)| (k.to_vec(), v.to_vec())).filter(|(k, _)| rules::word(k) == w.as_slice()));
+        let got =
+            caught(|| reader.get(&target).unwrap().map(|(k, v)| (k.to_vec(), v.to_vec())).filter(|(k, _)| rules::word(k) == w.as_slice()));
         // The block that the index names, and whether the target is its index key.
         let n = index.partition_point(|k| rules::order(k, &target) == Ordering::Less);
         let is_index_key = n < index.len() && rules::order(&index[n], &target) == Ordering::Equal;
@@ -243,7 +256,9 @@ pub fn compare(r: &mut Rng, o: &Opts, items: &[Item], runs: &mut Runs, tally: &m
     same_footer(&ours, tally);
     if !rising(&by_text) {
         tally.listed("panic of the text while building");
-        hold(done.as_ref().err().map(|p| p.as_str()) == Some("block_builder.rs"), || format!("the text ends with {done:?} where its index keys do not rise"));
+        hold(done.as_ref().err().map(|p| p.as_str()) == Some("block_builder.rs"), || {
+            format!("the text ends with {done:?} where its index keys do not rise")
+        });
         hold(meta.offset >= theirs.len() && ours.starts_with(&theirs), || "data blocks before a panic differ".into());
         return read_both(r, &opt, &ours, items, o.bits, "ours", &by_rules, tally);
     }
@@ -266,7 +281,9 @@ pub fn compare(r: &mut Rng, o: &Opts, items: &[Item], runs: &mut Runs, tally: &m
     // The index block is that of the builder of blocks, with other keys.
     let values: Vec<Vec<u8>> = rules::block(rules::part(&ours, index)).pairs.into_iter().map(|p| p.1).collect();
     let again: Vec<_> = by_rules.iter().cloned().zip(values).collect();
-    hold(text::data_block(o.interval, &again) == rules::part(&ours, index), || "our index block is not what the text makes of its keys".into());
+    hold(text::data_block(o.interval, &again) == rules::part(&ours, index), || {
+        "our index block is not what the text makes of its keys".into()
+    });
     if items.is_empty() {
         hold(ours == theirs, || "empty tables differ".into());
         tally.same("tables/empty ones whole", 1);
@@ -291,8 +308,12 @@ pub fn compare(r: &mut Rng, o: &Opts, items: &[Item], runs: &mut Runs, tally: &m
 /// A footer decoded by both.
 fn same_footer(t: &[u8], tally: &mut Tally) {
     let f = ours::footer(t);
-    let theirs = caught(|| Footer::decode(&t[t.len() - 48..]).map(|f| [f.meta_index.offset(), f.meta_index.size(), f.index.offset(), f.index.size()]));
-    hold(f.answer == 0 && theirs == Ok(Some([f.meta_offset, f.meta_size, f.index_offset, f.index_size])), || format!("a footer decoded: {theirs:?}, ours {f:?}"));
+    let theirs = caught(|| {
+        Footer::decode(&t[t.len() - 48..]).map(|f| [f.meta_index.offset(), f.meta_index.size(), f.index.offset(), f.index.size()])
+    });
+    hold(f.answer == 0 && theirs == Ok(Some([f.meta_offset, f.meta_size, f.index_offset, f.index_size])), || {
+        format!("a footer decoded: {theirs:?}, ours {f:?}")
+    });
     tally.same("tables/footers decoded", 1);
 }
 
@@ -347,7 +368,13 @@ pub fn small(runs: &mut Runs, tally: &mut Tally) -> Vec<(&'static str, String)> 
     }
     all.sort_by_key(|items: &Vec<Item>| {
         let words: Vec<_> = items.iter().map(|i| i.word.clone()).collect();
-        (items.len(), words.concat().len(), items.iter().map(|i| i.edition).sum::<u64>(), items.iter().filter(|i| i.kind == 0).count(), words)
+        (
+            items.len(),
+            words.concat().len(),
+            items.iter().map(|i| i.edition).sum::<u64>(),
+            items.iter().filter(|i| i.kind == 0).count(),
+            words,
+        )
     });
     let mut first: Vec<(&'static str, String)> = vec![];
     for (n, items) in all.iter().enumerate() {
@@ -356,7 +383,14 @@ pub fn small(runs: &mut Runs, tally: &mut Tally) -> Vec<(&'static str, String)> 
         tally.same("tables/of them all of up to three entries", 1);
         for &rule in t.listed.keys() {
             if !first.iter().any(|f| f.0 == rule) {
-                first.push((rule, items.iter().map(|i| format!("{}:{}{}", hex(&i.word), i.edition, if i.kind == 0 { "d" } else { "" })).collect::<Vec<_>>().join(" ")));
+                first.push((
+                    rule,
+                    items
+                        .iter()
+                        .map(|i| format!("{}:{}{}", hex(&i.word), i.edition, if i.kind == 0 { "d" } else { "" }))
+                        .collect::<Vec<_>>()
+                        .join(" "),
+                ));
             }
         }
         tally.join(t);
