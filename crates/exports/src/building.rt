@@ -256,7 +256,8 @@ fn added_out(before: SalevoniState, x: Added) -> SalevoniBuilt
 {
     let answer = x.answer;
     let b = x.state;
-    answered(before, state_out(b), answer)
+    let after = state_out(b);
+    answered(before, after, answer)
 }
 
 // Finish's answer likewise.
@@ -265,7 +266,8 @@ fn finished_out(before: SalevoniState, x: Finished) -> SalevoniBuilt
 {
     let outcome = x.answer;
     let b = x.state;
-    ended(before, state_out(b), outcome)
+    let after = state_out(b);
+    ended(before, after, outcome)
 }
 
 // Starts a table in seven runs; nothing is written.

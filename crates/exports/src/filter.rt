@@ -111,11 +111,8 @@ pub extern "C" fn salevoni_filter_may(filter: &[u8], hash: u32) -> u32
 pub extern "C" fn salevoni_filter_block_may(block: &[u8], offset: usize, hash: u32) -> u32
     ensures { λ r. ⌜ r ≡ cond (mayMatch (now (block .entry)) offset hash) 1 0 ⌝ }
 {
-    number_if(
-        filter_block::filter_block::may_match(block, offset, hash),
-        1,
-        0,
-    )
+    let may = filter_block::filter_block::may_match(block, offset, hash);
+    number_if(may, 1, 0)
 }
 
 // Whether some bytes are a well-formed filter block: 0 or 12.
