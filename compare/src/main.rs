@@ -4,8 +4,17 @@
 #[path = "../text/infolog.rs"]
 #[macro_use]
 pub mod infolog;
-#[path = "../text/block.rs"]
-mod block;
+mod block {
+    include!("../text/block.rs");
+    /// Where an iterator stands.
+    pub mod inside {
+        use super::*;
+        /// Where its entry starts, and where that entry's value does.
+        pub fn place(it: &BlockIter) -> (usize, usize) {
+            (it.current_entry_offset, it.val_offset)
+        }
+    }
+}
 #[path = "../text/block_builder.rs"]
 mod block_builder;
 #[path = "../text/blockhandle.rs"]
@@ -51,13 +60,24 @@ mod options;
 mod table_block;
 #[path = "../text/table_builder.rs"]
 mod table_builder;
-#[path = "../text/table_reader.rs"]
-mod table_reader;
+mod table_reader {
+    include!("../text/table_reader.rs");
+    /// Where an iterator stands.
+    pub mod inside {
+        use super::*;
+        /// Where its index entry starts in the index, where its entry does in its block, and where that entry's value does in the table.
+        pub fn place(it: &TableIterator) -> (usize, usize, usize) {
+            let (entry, value) = crate::block::inside::place(it.current_block.as_ref().unwrap());
+            (crate::block::inside::place(&it.index_block).0, entry, it.current_block_off + value)
+        }
+    }
+}
 #[path = "../text/types.rs"]
 mod types;
 use error::{Result, Status, StatusCode};
 
 mod base;
+mod list;
 mod listed;
 mod measure;
 mod ours;
@@ -67,12 +87,23 @@ mod run;
 mod tables;
 mod text;
 
+/// Without words everything is compared; `list FOLDER` writes a list of cases with the text's answers.
 fn main() {
     if std::env::args().nth(1).as_deref() == Some("measure") {
         return measure::run();
     }
     base::silence();
-    if !run::run() {
+    let words: Vec<String> = std::env::args().skip(1).collect();
+    let words: Vec<&str> = words.iter().map(|w| w.as_str()).collect();
+    let done = match words[..] {
+        [] => run::run(),
+        ["list", folder] => list::write(folder),
+        _ => {
+            eprintln!("compare: 'list FOLDER', or nothing.");
+            false
+        }
+    };
+    if !done {
         std::process::exit(1);
     }
 }

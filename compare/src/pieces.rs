@@ -11,7 +11,7 @@ use crate::types::LdbIterator;
 use std::rc::Rc;
 
 /// Keys that look alike: one made of the other by a few changes.
-fn near(r: &mut Rng, a: &[u8]) -> Vec<u8> {
+pub fn near(r: &mut Rng, a: &[u8]) -> Vec<u8> {
     let mut b = a.to_vec();
     for _ in 0..r.within(0, 3) {
         let at = if b.is_empty() { 0 } else { r.within(0, b.len() - 1) };

@@ -31,7 +31,7 @@ fn some_options(r: &mut Rng) -> Opts {
     Opts { block, interval, bits: if r.one_in(4) { None } else { Some(r.within(1, 64) as u32) } }
 }
 
-fn some_word(r: &mut Rng, style: usize, n: usize) -> Vec<u8> {
+pub fn some_word(r: &mut Rng, style: usize, n: usize) -> Vec<u8> {
     let letters: &[u8] = match style {
         0 => &LETTERS,
         1 => &[0x61, 0x62, 0x63],
@@ -122,7 +122,7 @@ fn cuts(t: &[u8]) -> Cuts {
 }
 
 /// Where a target stands: near an entry, or anywhere.
-fn some_target(r: &mut Rng, items: &[Item]) -> (Vec<u8>, u64) {
+pub fn some_target(r: &mut Rng, items: &[Item]) -> (Vec<u8>, u64) {
     if items.is_empty() || r.one_in(8) {
         let n = r.within(1, 4);
         return (if r.one_in(2) { r.bytes(n) } else { (0..n).map(|_| r.of(&LETTERS)).collect() }, r.next() & EDITION_MAX);
