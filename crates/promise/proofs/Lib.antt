@@ -1,0 +1,2 @@
+pub mod BuiltLaws
+pub mod ReadLaws
