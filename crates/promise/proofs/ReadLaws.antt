@@ -1,7 +1,7 @@
 -- What a seek in a table that passes finds, and a lookup in a finished one.
 use Prim.Native.Nat.{ℕ, _≤_}
-use mathlib.Core.Path.{_≡_, refl, sym, _∙_, ap, subst}
-use mathlib.Core.List.{List, _∷_, map, List·Memᴰ, List·Memᴰ·head, List·Memᴰ·tail, Memᴰ·map}
+use mathlib.Core.Path.{_≡_, refl, sym, _∙_, ap, ap₂, subst}
+use mathlib.Core.List.{List, [], _∷_, map, List·Memᴰ, List·Memᴰ·head, List·Memᴰ·tail, Memᴰ·map}
 use mathlib.Core.Bool.{Bool, true, false, not, false≢true}
 use mathlib.Core.Option.{Option, none, some}
 use lib.Dec.{T, eqb}
@@ -13,7 +13,8 @@ use Rattle.table.specs.Options.{Addition}
 use Rattle.table.specs.Runs.{overlay}
 use Rattle.table.specs.Table.{plain, Found}
 use Rattle.table.specs.Promise.{Passed, notBelow, seekOf, lookupOf, Newest, additionOf}
-use Rattle.table.specs.Reads.{Answer, found, deleted, foundOr, byKind, seekSays, lookupSays, bufferAfter}
+use Rattle.codec.specs.Limits.{within}
+use Rattle.table.specs.Reads.{pointFits, Answer, found, deleted, foundOr, byKind, seekSays, lookupSays, bufferAfter}
 use Rattle.table.proofs.SearchLaws.{seek-means, lookup-means, seek-none-means, lookup-none-means}
 use Rattle.table.proofs.PlaceLaws.{values-stand}
 use Rattle.table.proofs.OverlayLaws.{overlay-front}
@@ -23,7 +24,10 @@ use Rattle.reader.specs.declared.table_reader.Found.the-variants as FoundCase
 use Rattle.reader.specs.declared.table_reader.Sought.{Sought}
 use Rattle.reader.specs.declared.table_reader.Sought.the-variants as SoughtCase
 use Rattle.reader.specs.Answers.{entryOf, soughtOf, lookedOf}
-use Rattle.promise.specs.Demand.{NewestOf, Shows, LooksUp, lookupSaysAdditions, SeeksLeast, seekFindsLeast}
+use Rattle.reader.specs.Walk.{leastPoint, visitOf}
+use Rattle.reader.proofs.TourLaws.{walk-means}
+use Rattle.reader.proofs.LeastLaws.{whole-walk}
+use Rattle.promise.specs.Demand.{shownBy, walkShowsAdditions, NewestOf, Shows, LooksUp, lookupSaysAdditions, SeeksLeast, seekFindsLeast}
 use Rattle.promise.proofs.BuiltLaws.{apart, finished-reads}
 
 -- the key of an entry that was found, at the front of the buffer
@@ -147,3 +151,21 @@ lookup-says-additions o xs t w p f k l r k′ s =
     let d = finished-reads o xs t w in
     let a-is : s .answer ≡ byKind (lookupOf t p) = s .is .table f l .passed (d .0) in
     by-lookup t (d .0) xs (d .1) p (lookupOf t p) refl k (s .shown ∙ ap lookedOf a-is) (s .is .buffer ∙ ap (λ (a : Answer). bufferAfter a k) a-is)
+
+-- ---- walk
+
+module _ (t : List ℕ) where
+  shown-one : (x : Found) → List·Memᴰ x (plain t) → shownBy t (visitOf x) ≡ additionOf x
+  unfolding shownBy visitOf entryOf additionOf
+  shown-one x m = λ i. record { word = userOf (x .key); edition = seqOf (x .key); kind = kindOf (x .key); value = sym (values-stand t x m) i }
+
+  shown-all : (xs : List Found) → ((x : Found) → List·Memᴰ x xs → List·Memᴰ x (plain t)) → map (shownBy t) (map visitOf xs) ≡ map additionOf xs
+  shown-all [] f = refl
+  shown-all (x ∷ xs) f = ap₂ _∷_ (shown-one x (f x (List·Memᴰ·head refl))) (shown-all xs (λ y m. f y (List·Memᴰ·tail m)))
+
+pub walk-shows-additions : walkShowsAdditions
+walk-shows-additions o xs t w bytes k l r k′ s vs walked =
+    let d = finished-reads o xs t w in
+    ap (map (shownBy t)) (walk-means t (d .0) leastPoint k (unfold leastPoint pointFits within in refl) l r k′ s vs walked ∙ ap (map visitOf) (whole-walk t bytes (d .0)))
+    ∙ shown-all t (plain t) (λ x m. m)
+    ∙ d .1

@@ -1,10 +1,10 @@
 -- The third demand, of the calls' contracts alone: what a builder finishes, and what a lookup and a seek answer.
-use Prim.Native.Nat.{ℕ, _≤_}
+use Prim.Native.Nat.{ℕ, _≤_, _<_}
 use mathlib.Core.Path.{_≡_}
 use mathlib.Core.List.{List, [], _∷_, _++_, map, List·Memᴰ}
 use mathlib.Core.Bool.{true}
 use mathlib.Core.Logic.{_↔_}
-use lib.ListN.{length, take}
+use lib.ListN.{length, take, getD}
 use Rattle.codec.specs.Bytes.{part}
 use Rattle.keys.specs.Order.{Point, userOf, seqOf, kindOf}
 use Rattle.table.specs.Options.{Addition}
@@ -26,6 +26,7 @@ use Rattle.reader.specs.declared.table_reader.Found.the-variants as FoundCase
 use Rattle.reader.specs.declared.table_reader.Sought.{Sought}
 use Rattle.reader.specs.declared.table_reader.Sought.the-variants as SoughtCase
 use Rattle.reader.specs.Answers.{entryOf, Seeks, Looks}
+use Rattle.reader.specs.Walk.{Visit, Walk, leastPoint}
 
 -- ---- building
 
@@ -57,6 +58,23 @@ finishAnswers = (o : Given.Options) (xs : List Addition) (s : Builder) (r r′ :
 -- every finished table passes, and reads plainly as exactly the additions that were accepted, in order
 abbrev pub finishedReads : Type 0
 finishedReads = (o : Given.Options) (xs : List Addition) (t : List ℕ) → Finishes o xs t → Passed t × (map additionOf (plain t) ≡ xs)
+
+-- ---- walking over what was built
+
+-- what a visit shows, as an addition: its key's parts, and its value, which lies in the table
+unfoldable pub shownBy : List ℕ → Visit → Addition
+shownBy t v =
+    record {
+      word = userOf (v .key);
+      edition = seqOf (v .key);
+      kind = kindOf (v .key);
+      value = part t (v .entry .«value_at») (v .entry .«value_len»);
+    }
+
+-- of every finished table, which has bytes: a walk by seek and step, from the least point on, shows exactly the additions that were accepted, in order
+abbrev pub walkShowsAdditions : Type 0
+walkShowsAdditions = (o : Given.Options) (xs : List Addition) (t : List ℕ) → Finishes o xs t → ((i : ℕ) → getD t i 0 < 256) → (k : List ℕ) → 1032 ≤ length k
+    → (r : Sought) (k′ : List ℕ) → Seeks t leastPoint k r k′ → (vs : List Visit) → Walk t r k′ vs → map (shownBy t) vs ≡ xs
 
 -- ---- looking words up in what was built
 
