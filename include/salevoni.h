@@ -5,6 +5,8 @@
  * between calls.
  *
  * A refusal gives its number and leaves all lent memory as it was.
+ *
+ * Reads and building are in libexports.a; the pieces of a table, filters and blocks in libpieces.a.
  */
 #ifndef SALEVONI_H
 #define SALEVONI_H

@@ -170,6 +170,10 @@ extern "C" {
         hashes: *mut u32,
         hashes_len: usize,
     ) -> Built;
+}
+
+#[link(name = "pieces", kind = "static")]
+extern "C" {
     fn salevoni_footer(table: *const u8, len: usize) -> Footer;
     fn salevoni_crc(crc: u32, bytes: *const u8, len: usize) -> u32;
     fn salevoni_mask(crc: u32) -> u32;

@@ -25,7 +25,8 @@ use keys::cmp::common_len;
 const MOST: usize = 18446744073709551615;
 
 // The interval of restarts; the entry bytes, the restarts and the entries since the last restart; the last key, which is the
-// first len bytes of last.
+// first len bytes of last. The library for C hands it out as it is.
+#[repr(C)]
 pub struct BlockBuilder {
     pub interval: usize,
     pub bytes: usize,

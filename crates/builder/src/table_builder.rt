@@ -39,7 +39,8 @@ pub struct Options {
     pub filter: Filter,
 }
 
-// The lengths of the seven runs.
+// The lengths of the seven runs. The library for C hands them out as they are.
+#[repr(C)]
 pub struct Lengths {
     pub out: usize,
     pub index: usize,

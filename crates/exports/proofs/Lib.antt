@@ -1,4 +1,2 @@
-pub mod BlockLaws
 pub mod BuildLaws
-pub mod NumberLaws
 pub mod ReadLaws

@@ -3,7 +3,6 @@ use Prim.Native.Nat.{ℕ}
 use mathlib.Core.Path.{_≡_}
 use mathlib.Core.Bool.{cond, not}
 use lib.Dec.{eqb}
-use Rattle.block_builder.specs.declared.block_builder.BlockBuilder.{BlockBuilder}
 use Rattle.filter_block.specs.declared.filter.Filter as FilterEnum
 use Rattle.filter_block.specs.declared.filter.Filter.the-variants as FilterCase
 use Rattle.table.specs.Options.{Addition}
@@ -14,13 +13,10 @@ use Rattle.builder.specs.declared.table_builder.Answer.{Answer}
 use Rattle.builder.specs.declared.table_builder.Answer.the-variants as AnswerCase
 use Rattle.builder.specs.declared.table_builder.Builder.{Builder}
 use Rattle.builder.specs.declared.table_builder.Finished.{Finished}
-use Rattle.builder.specs.declared.table_builder.Lengths.{Lengths}
 use Rattle.builder.specs.declared.table_builder.Options.{Options}
 use Rattle.builder.specs.declared.table_builder.Outcome.{Outcome}
 use Rattle.builder.specs.declared.table_builder.Outcome.the-variants as OutcomeCase
 use Rattle.builder.specs.declared.table_builder.Started.{Started}
-use Rattle.exports.specs.declared.building.SalevoniBlock.{SalevoniBlock}
-use Rattle.exports.specs.declared.building.SalevoniLengths.{SalevoniLengths}
 use Rattle.exports.specs.declared.building.SalevoniState.{SalevoniState}
 use Rattle.exports.specs.declared.building.SalevoniBuilt.{SalevoniBuilt}
 
@@ -40,51 +36,15 @@ abbrev pub filterBits : FilterEnum.Filter → ℕ
 filterBits FilterCase.None = 0
 filterBits (FilterCase.Bits b) = b
 
--- a block being built
-abbrev pub blockIn : SalevoniBlock → BlockBuilder
-blockIn b =
-    record { interval = b .interval; bytes = b .bytes; restarts = b .restarts; since = b .since; len = b .len; last = b .last }
-
--- and back
-abbrev pub blockOut : BlockBuilder → SalevoniBlock
-blockOut b =
-    record { interval = b .interval; bytes = b .bytes; restarts = b .restarts; since = b .since; len = b .len; last = b .last }
-
--- seven lengths
-abbrev pub lengthsIn : SalevoniLengths → Lengths
-lengthsIn l =
-    record {
-      out = l .out;
-      index = l .index;
-      filters = l .filters;
-      restarts = l .restarts;
-      «index_restarts» = l .«index_restarts»;
-      offsets = l .offsets;
-      hashes = l .hashes;
-    }
-
--- and back
-abbrev pub lengthsOut : Lengths → SalevoniLengths
-lengthsOut l =
-    record {
-      out = l .out;
-      index = l .index;
-      filters = l .filters;
-      restarts = l .restarts;
-      «index_restarts» = l .«index_restarts»;
-      offsets = l .offsets;
-      hashes = l .hashes;
-    }
-
 -- the builder of a state
 unfoldable pub builderIn : SalevoniState → Builder
 builderIn s =
     record {
       options = record { «block_size» = s .«block_size»; interval = s .interval; filter = filterIn (s .filter) (s .bits) };
-      lengths = lengthsIn (s .lengths);
+      lengths = s .lengths;
       written = s .written;
-      pending = blockIn (s .pending);
-      indexed = blockIn (s .indexed);
+      pending = s .pending;
+      indexed = s .indexed;
       filtered = s .filtered;
       made = s .made;
       waiting = s .waiting;
@@ -99,10 +59,10 @@ stateOut b =
       interval = b .options .interval;
       filter = filterNumber (b .options .filter);
       bits = filterBits (b .options .filter);
-      lengths = lengthsOut (b .lengths);
+      lengths = b .lengths;
       written = b .written;
-      pending = blockOut (b .pending);
-      indexed = blockOut (b .indexed);
+      pending = b .pending;
+      indexed = b .indexed;
       filtered = b .filtered;
       made = b .made;
       waiting = b .waiting;

@@ -1,8 +1,7 @@
 // A table built: start, add, finish. The state goes in and comes back by value.
 ghost use mathlib.Core.Path.{_≡_};
 ghost use Rattle.builder.specs.State.{seven};
-ghost use Rattle.exports.specs.Building.{filterIn, filterNumber, filterBits, blockIn, blockOut, lengthsIn, lengthsOut, builderIn, stateOut, answered, ended, startedOut, addedOut, finishedOut, StartsOut, AddsOut, FinishesOut};
-use crate::numbers::number_if;
+ghost use Rattle.exports.specs.Building.{filterIn, filterNumber, filterBits, builderIn, stateOut, answered, ended, startedOut, addedOut, finishedOut, StartsOut, AddsOut, FinishesOut};
 use block_builder::block_builder::BlockBuilder;
 use builder::table_builder::Added;
 use builder::table_builder::Answer;
@@ -13,30 +12,7 @@ use builder::table_builder::Options;
 use builder::table_builder::Outcome;
 use builder::table_builder::Started;
 use filter_block::filter::Filter;
-
-// A block being built: the interval of restarts; the entry bytes, the restarts and the entries since the last restart; the last
-// key, which is the first len bytes of last.
-#[repr(C)]
-pub struct SalevoniBlock {
-    pub interval: usize,
-    pub bytes: usize,
-    pub restarts: usize,
-    pub since: usize,
-    pub len: usize,
-    pub last: [u8; 1032],
-}
-
-// The lengths of the seven runs.
-#[repr(C)]
-pub struct SalevoniLengths {
-    pub out: usize,
-    pub index: usize,
-    pub filters: usize,
-    pub restarts: usize,
-    pub index_restarts: usize,
-    pub offsets: usize,
-    pub hashes: usize,
-}
+use pieces::numbers::number_if;
 
 // A table being built, the builder's state in numbers: filter is 0 for none, else Bloom with so many bits per key; finished is
 // 0 until finish.
@@ -46,10 +22,10 @@ pub struct SalevoniState {
     pub interval: usize,
     pub filter: u32,
     pub bits: u32,
-    pub lengths: SalevoniLengths,
+    pub lengths: Lengths,
     pub written: usize,
-    pub pending: SalevoniBlock,
-    pub indexed: SalevoniBlock,
+    pub pending: BlockBuilder,
+    pub indexed: BlockBuilder,
     pub filtered: usize,
     pub made: usize,
     pub waiting: usize,
@@ -96,64 +72,6 @@ fn filter_bits(f: Filter) -> u32
     }
 }
 
-// A block being built, as its crate has it.
-pub fn block_in(b: SalevoniBlock) -> BlockBuilder
-    ensures { λ r. ⌜ r ≡ blockIn b ⌝ }
-{
-    let last = b.last;
-    BlockBuilder {
-        interval: b.interval,
-        bytes: b.bytes,
-        restarts: b.restarts,
-        since: b.since,
-        len: b.len,
-        last: last,
-    }
-}
-
-// And back.
-pub fn block_out(b: BlockBuilder) -> SalevoniBlock
-    ensures { λ r. ⌜ r ≡ blockOut b ⌝ }
-{
-    let last = b.last;
-    SalevoniBlock {
-        interval: b.interval,
-        bytes: b.bytes,
-        restarts: b.restarts,
-        since: b.since,
-        len: b.len,
-        last: last,
-    }
-}
-
-fn lengths_in(l: SalevoniLengths) -> Lengths
-    ensures { λ r. ⌜ r ≡ lengthsIn l ⌝ }
-{
-    Lengths {
-        out: l.out,
-        index: l.index,
-        filters: l.filters,
-        restarts: l.restarts,
-        index_restarts: l.index_restarts,
-        offsets: l.offsets,
-        hashes: l.hashes,
-    }
-}
-
-fn lengths_out(l: Lengths) -> SalevoniLengths
-    ensures { λ r. ⌜ r ≡ lengthsOut l ⌝ }
-{
-    SalevoniLengths {
-        out: l.out,
-        index: l.index,
-        filters: l.filters,
-        restarts: l.restarts,
-        index_restarts: l.index_restarts,
-        offsets: l.offsets,
-        hashes: l.hashes,
-    }
-}
-
 // The builder of a state.
 fn builder_in(s: SalevoniState) -> Builder
     ensures { λ r. ⌜ r ≡ builderIn s ⌝ }
@@ -168,10 +86,10 @@ fn builder_in(s: SalevoniState) -> Builder
     };
     Builder {
         options: options,
-        lengths: lengths_in(l),
+        lengths: l,
         written: s.written,
-        pending: block_in(p),
-        indexed: block_in(i),
+        pending: p,
+        indexed: i,
         filtered: s.filtered,
         made: s.made,
         waiting: s.waiting,
@@ -193,10 +111,10 @@ fn state_out(b: Builder) -> SalevoniState
         interval: o.interval,
         filter: filter_number(f),
         bits: filter_bits(f),
-        lengths: lengths_out(l),
+        lengths: l,
         written: b.written,
-        pending: block_out(p),
-        indexed: block_out(i),
+        pending: p,
+        indexed: i,
         filtered: b.filtered,
         made: b.made,
         waiting: b.waiting,

@@ -1,8 +1,4 @@
-// The library for C: functions over numbers, slices (a pointer and a length each) and structs by value. Each hands its
-// arguments to the crate below that answers, and gives the answer in numbers.
-pub mod block;
+// Whole tables for C: checked, read and built, over numbers, slices (a pointer and a length each) and structs by value. Each
+// function hands its arguments to the crate below that answers, and gives the answer in numbers.
 pub mod building;
-pub mod filter;
-pub mod numbers;
-pub mod pieces;
 pub mod reads;

@@ -7,20 +7,10 @@ use Rattle.exports.proofs.building.builder_in.Tie as tie
 filter-in-requires : tie.Need-filter-in-requires
 filter-in-requires c κs = search needs
 
-lengths-in-requires : tie.Need-lengths-in-requires
-lengths-in-requires c κs = search needs
-
-block-in-requires : tie.Need-block-in-requires
-block-in-requires c κs = search needs
-
-block-in-requires-2 : tie.Need-block-in-requires-2
-block-in-requires-2 c κs = search needs
-
 returns : tie.Need-returns
 unfolding builderIn
 returns c = cc
 
 pub builder-in-spec : {M : Type 1} → statement M
 builder-in-spec =
-    tie.close
-    (tie.spec filter-in-requires lengths-in-requires block-in-requires block-in-requires-2 returns)
+    tie.close (tie.spec filter-in-requires returns)

@@ -10,15 +10,6 @@ filter-number-requires c κs = search needs
 filter-bits-requires : tie.Need-filter-bits-requires
 filter-bits-requires c κs = search needs
 
-lengths-out-requires : tie.Need-lengths-out-requires
-lengths-out-requires c κs = search needs
-
-block-out-requires : tie.Need-block-out-requires
-block-out-requires c κs = search needs
-
-block-out-requires-2 : tie.Need-block-out-requires-2
-block-out-requires-2 c κs = search needs
-
 number-if-requires : tie.Need-number-if-requires
 number-if-requires c κs = search needs
 
@@ -32,8 +23,5 @@ state-out-spec =
     (tie.spec
     filter-number-requires
     filter-bits-requires
-    lengths-out-requires
-    block-out-requires
-    block-out-requires-2
     number-if-requires
     returns)

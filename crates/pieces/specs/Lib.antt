@@ -1,0 +1,4 @@
+pub mod Blocks
+pub mod Filters
+pub mod Numbers
+pub mod Pieces
