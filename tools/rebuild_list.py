@@ -1,15 +1,15 @@
 #!/usr/bin/env python3
-"""Writes the list that the program `rebuild` is run on, crates/rebuild/stdin, and what it has to answer, crates/rebuild/stdout.
+"""Writes the section `builder` of the list that the program `replay` is run on, and what it has to answer (see sections.py).
 
 The answers, and what each of the seven runs holds after a call, come from a reading of the rules in Python, rules.py, that shares
-nothing with the code or its definitions. Run it by hand when the list changes; the tests only replay the two files.
+nothing with the code or its definitions. Run it by hand when the list changes; the tests only replay what it wrote.
 """
-import os, random, struct
+import random, struct
+import sections
 from rules import *
 
-TOP = os.path.join(os.path.dirname(os.path.abspath(__file__)), '..', 'crates', 'rebuild')
-# how long the program's arrays are: the input, each run of bytes, each run of numbers
-MOST_INPUT, MOST_BYTES, MOST_NUMBERS = 200000, 140000, 35000
+# how long the program's arrays are: each run of bytes, each run of numbers
+MOST_BYTES, MOST_NUMBERS = 140000, 35000
 lines, answers = [], []
 
 # ---- the commands
@@ -543,10 +543,7 @@ for turn in range(110):
     if random.random() < 0.2:
         r.finish(6).add(*additions[-1], want=6)
 
-os.makedirs(TOP, exist_ok=True)
-assert sum(len(l) + 1 for l in lines) <= MOST_INPUT
-open(os.path.join(TOP, 'stdin'), 'w').write('\n'.join(lines) + '\n')
-open(os.path.join(TOP, 'stdout'), 'w').write('\n'.join(answers) + '\n')
-print(len(lines), 'lines,', os.path.getsize(os.path.join(TOP, 'stdin')), 'bytes;', os.path.getsize(os.path.join(TOP, 'stdout')), 'bytes of answers;', ', '.join('%s %d' % (c, sum(l[0] == c for l in lines)) for c in sorted({l[0] for l in lines})))
+sections.replace('builder', lines, answers)
+print(len(lines), 'lines,', sum(len(l) + 1 for l in lines), 'bytes;', sum(len(a) + 1 for a in answers), 'bytes of answers;', ', '.join('%s %d' % (c, sum(l[0] == c for l in lines)) for c in sorted({l[0] for l in lines})))
 for c in 'SAF':
     print(c, {s: sum(1 for x in answers if x[0] == c and x[2:].startswith(s)) for s in ('ok', 'size', 'refused 1', 'refused 2', 'refused 3', 'refused 4', 'refused 5', 'refused 6')})

@@ -1,13 +1,13 @@
 #!/usr/bin/env python3
-"""Writes the list that the program `replay` is run on, crates/replay/stdin, and what it has to answer, crates/replay/stdout.
+"""Writes the section `cases` of the list that the program `replay` is run on, and what it has to answer (see sections.py).
 
 The answers come from a reading of the rules in Python, rules.py, that shares nothing with the code or its definitions; the hash
-vectors are LevelDB's own. Run it by hand when the list changes; the tests only replay the two files.
+vectors are LevelDB's own. Run it by hand when the list changes; the tests only replay what it wrote.
 """
-import os, struct
+import struct
+import sections
 from rules import *
 
-TOP = os.path.join(os.path.dirname(os.path.abspath(__file__)), '..', 'crates', 'replay')
 lines, answers = [], []
 
 # ---- the list
@@ -903,7 +903,5 @@ Whole(out.table(meta, out.put(s)), 10).any(b'a', 5)
 for interval, size, bits, n in ((2, 30, 10, 5), (1, 8, 0, 3), (16, 60, 10, 9)):
     Whole(write_table(interval, size, bits, sample(n)), None).walk().spoiled(b'word000', 8, (0x01, 0x04, 0x40, 0x80, 0xff))
 
-os.makedirs(TOP, exist_ok=True)
-open(os.path.join(TOP, 'stdin'), 'w').write('\n'.join(lines) + '\n')
-open(os.path.join(TOP, 'stdout'), 'w').write('\n'.join(a.strip() for a in answers) + '\n')
-print(len(lines), 'cases,', os.path.getsize(os.path.join(TOP, 'stdin')), 'bytes;', ', '.join('%s %d' % (c, sum(l[0] == c for l in lines)) for c in sorted({l[0] for l in lines})))
+sections.replace('cases', lines, [a.strip() for a in answers])
+print(len(lines), 'cases,', sum(len(l) + 1 for l in lines), 'bytes;', ', '.join('%s %d' % (c, sum(l[0] == c for l in lines)) for c in sorted({l[0] for l in lines})))

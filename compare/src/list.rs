@@ -1,4 +1,4 @@
-//! A list of cases with the text's own answers, written as the commands of crates/cases are: a program replays it, where neither the
+//! A list of cases with the text's own answers, written as the cases of crates/replay are: that program answers it, where neither the
 //! text nor Rust is at hand. Only the text is called here, our library never. What docs/DIFFERENCES.md lists is left out by rule.
 use crate::base::{strings, Rng, LETTERS};
 use crate::block;

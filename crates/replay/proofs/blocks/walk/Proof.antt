@@ -1,0 +1,58 @@
+-- A walk of so many steps at most.
+use Prim.Native.Nat.{_-_}
+use borrow.Author.Needs.{needs}
+use Rattle.replay.proofs.blocks.walk.Statement.{statement}
+use Rattle.replay.proofs.blocks.walk.Tie as tie
+
+abbrev Inv-loop : tie.InvT-loop
+Inv-loop b w₀ n₀ t4 w n = Unit {0}
+
+abbrev μ-loop : tie.MeasureT-loop
+μ-loop b w₀ n₀ t4 w n = 65536 - n
+
+walk-first-requires : tie.Need-walk-first-requires Inv-loop μ-loop
+walk-first-requires c κs = search needs
+
+loop-holds : tie.Need-loop-holds Inv-loop μ-loop
+loop-holds c = search needs
+
+add-n : tie.Need-add-n Inv-loop μ-loop
+add-n c = search needs
+
+walk-next-requires : tie.Need-walk-next-requires Inv-loop μ-loop
+walk-next-requires c κs = search needs
+
+loop-less : tie.Need-loop-less Inv-loop μ-loop
+loop-less c = search needs
+
+loop-again : tie.Need-loop-again Inv-loop μ-loop
+loop-again c = search needs
+
+slice-aggregate-say : tie.Need-slice-aggregate-say Inv-loop μ-loop
+slice-aggregate-say c = search needs
+
+say-requires : tie.Need-say-requires Inv-loop μ-loop
+say-requires c κs = search needs
+
+number-requires : tie.Need-number-requires Inv-loop μ-loop
+number-requires c κs = search needs
+
+returns : tie.Need-returns Inv-loop μ-loop
+returns c = search needs
+
+pub walk-spec : {M : Type 1} → statement M
+walk-spec =
+    tie.close
+    (tie.spec
+    Inv-loop
+    μ-loop
+    walk-first-requires
+    loop-holds
+    add-n
+    walk-next-requires
+    loop-less
+    loop-again
+    slice-aggregate-say
+    say-requires
+    number-requires
+    returns)

@@ -1,0 +1,260 @@
+// The seven runs: filled, exchanged, and their checksums.
+use crate::fields::front;
+use crate::show;
+
+// A checksum of each run.
+pub struct Seven {
+    pub out: u32,
+    pub index: u32,
+    pub filters: u32,
+    pub restarts: u32,
+    pub index_restarts: u32,
+    pub offsets: u32,
+    pub hashes: u32,
+}
+
+fn first_numbers(s: &[u32], len: usize) -> &[u32] {
+    if len <= s.len() { &s[0..len] } else { s }
+}
+
+// A checksum with a number of 4 bytes more.
+fn with_number(c: u32, x: u32) -> u32 {
+    let mut four = [0u8; 4];
+    codec::fixed::write_u32(&mut four, 0, x);
+    codec::crc::extend(c, &four)
+}
+
+// The checksum of a run of numbers.
+fn sum(xs: &[u32]) -> u32 {
+    let mut c: u32 = 0;
+    let mut i: usize = 0;
+    while i < xs.len() {
+        c = with_number(c, xs[i]);
+        i = i + 1;
+    }
+    c
+}
+
+pub fn no_sums() -> Seven {
+    Seven {
+        out: 0,
+        index: 0,
+        filters: 0,
+        restarts: 0,
+        index_restarts: 0,
+        offsets: 0,
+        hashes: 0,
+    }
+}
+
+// The checksums of the runs as long as they are in use, those of bytes and those of numbers.
+pub fn sums(
+    bytes: usize,
+    numbers: usize,
+    out: &[u8],
+    index: &[u8],
+    filters: &[u8],
+    restarts: &[u32],
+    index_restarts: &[u32],
+    offsets: &[u32],
+    hashes: &[u32],
+) -> Seven {
+    Seven {
+        out: codec::crc::extend(0, front(out, bytes)),
+        index: codec::crc::extend(0, front(index, bytes)),
+        filters: codec::crc::extend(0, front(filters, bytes)),
+        restarts: sum(first_numbers(restarts, numbers)),
+        index_restarts: sum(first_numbers(index_restarts, numbers)),
+        offsets: sum(first_numbers(offsets, numbers)),
+        hashes: sum(first_numbers(hashes, numbers)),
+    }
+}
+
+// Whether all seven are the same.
+pub fn same(a: Seven, b: Seven) -> bool {
+    a.out == b.out
+        && a.index == b.index
+        && a.filters == b.filters
+        && a.restarts == b.restarts
+        && a.index_restarts == b.index_restarts
+        && a.offsets == b.offsets
+        && a.hashes == b.hashes
+}
+
+fn shown(x: u32) {
+    show::say(b" ");
+    show::word(x);
+}
+
+pub fn tell(a: Seven) {
+    shown(a.out);
+    shown(a.index);
+    shown(a.filters);
+    shown(a.restarts);
+    shown(a.index_restarts);
+    shown(a.offsets);
+    shown(a.hashes);
+}
+
+fn store(s: &mut [u8], i: usize, b: u8) {
+    if i < s.len() {
+        s[i] = b;
+    }
+}
+
+fn store_number(s: &mut [u32], i: usize, x: u32) {
+    if i < s.len() {
+        s[i] = x;
+    }
+}
+
+// A run of bytes filled with a pattern.
+fn fill(s: &mut [u8], pattern: u8) {
+    let mut i: usize = 0;
+    while i < s.len() {
+        store(s, i, pattern ^ ((i % 251) as u8));
+        i = i + 1;
+    }
+}
+
+// A run of numbers filled with a pattern.
+fn fill_numbers(s: &mut [u32], pattern: u32) {
+    let mut i: usize = 0;
+    while i < s.len() {
+        store_number(s, i, pattern ^ ((i % 65536) as u32));
+        i = i + 1;
+    }
+}
+
+// Each run of bytes filled with a pattern of its own.
+fn lay_bytes(out: &mut [u8], index: &mut [u8], filters: &mut [u8]) {
+    fill(out, 0x11);
+    fill(index, 0x53);
+    fill(filters, 0x95);
+}
+
+fn lay_numbers(
+    restarts: &mut [u32],
+    index_restarts: &mut [u32],
+    offsets: &mut [u32],
+    hashes: &mut [u32],
+) {
+    fill_numbers(restarts, 0xa000_0000);
+    fill_numbers(index_restarts, 0xb000_0000);
+    fill_numbers(offsets, 0xc000_0000);
+    fill_numbers(hashes, 0xd000_0000);
+}
+
+fn swap_at(a: &mut [u8], b: &mut [u8], i: usize) {
+    if i < a.len() {
+        if i < b.len() {
+            let t = a[i];
+            a[i] = b[i];
+            b[i] = t;
+        }
+    }
+}
+
+fn swap_number_at(a: &mut [u32], b: &mut [u32], i: usize) {
+    if i < a.len() {
+        if i < b.len() {
+            let t = a[i];
+            a[i] = b[i];
+            b[i] = t;
+        }
+    }
+}
+
+// Two runs of bytes exchanged.
+fn swap(a: &mut [u8], b: &mut [u8]) {
+    let mut i: usize = 0;
+    while i < a.len() {
+        swap_at(a, b, i);
+        i = i + 1;
+    }
+}
+
+// Two runs of numbers exchanged.
+fn swap_numbers(a: &mut [u32], b: &mut [u32]) {
+    let mut i: usize = 0;
+    while i < a.len() {
+        swap_number_at(a, b, i);
+        i = i + 1;
+    }
+}
+
+// Two of the runs of bytes, by the number of the pair.
+fn exchange_bytes(pair: usize, out: &mut [u8], index: &mut [u8], filters: &mut [u8]) {
+    if pair == 0 {
+        swap(out, index);
+        return;
+    }
+    if pair == 1 {
+        swap(out, filters);
+        return;
+    }
+    if pair == 2 {
+        swap(index, filters);
+    }
+}
+
+// Two of the runs of numbers, by the number of the pair.
+fn exchange_numbers(
+    pair: usize,
+    restarts: &mut [u32],
+    index_restarts: &mut [u32],
+    offsets: &mut [u32],
+    hashes: &mut [u32],
+) {
+    if pair == 3 {
+        swap_numbers(restarts, index_restarts);
+        return;
+    }
+    if pair == 4 {
+        swap_numbers(restarts, offsets);
+        return;
+    }
+    if pair == 5 {
+        swap_numbers(restarts, hashes);
+        return;
+    }
+    if pair == 6 {
+        swap_numbers(index_restarts, offsets);
+        return;
+    }
+    if pair == 7 {
+        swap_numbers(index_restarts, hashes);
+        return;
+    }
+    if pair == 8 {
+        swap_numbers(offsets, hashes);
+    }
+}
+
+// The commands on whole runs: W fills each, X exchanges the two of a pair.
+pub fn change_bytes(op: u8, pair: usize, out: &mut [u8], index: &mut [u8], filters: &mut [u8]) {
+    if op == b'W' {
+        lay_bytes(out, index, filters);
+        return;
+    }
+    if op == b'X' {
+        exchange_bytes(pair, out, index, filters);
+    }
+}
+
+pub fn change_numbers(
+    op: u8,
+    pair: usize,
+    restarts: &mut [u32],
+    index_restarts: &mut [u32],
+    offsets: &mut [u32],
+    hashes: &mut [u32],
+) {
+    if op == b'W' {
+        lay_numbers(restarts, index_restarts, offsets, hashes);
+        return;
+    }
+    if op == b'X' {
+        exchange_numbers(pair, restarts, index_restarts, offsets, hashes);
+    }
+}
