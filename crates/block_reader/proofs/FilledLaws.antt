@@ -1,5 +1,5 @@
 -- The check of a block, entry by entry: what one entry leaves of it, and what the whole comes to.
-use Prim.Native.Nat.{ℕ, suc, _+_, _-_, _≤_, _<_, Ordering·eq}
+use Prim.Native.Nat.{ℕ, suc, _+_, _-_, _≤_, _<_}
 use mathlib.Core.Path.{_≡_, refl, sym, ap, _∙_}
 use mathlib.Core.List.{List, [], _∷_}
 use mathlib.Core.Bool.{Bool, true, false, _&&_, and-true, and-false, and-comm, false≢true}
@@ -14,14 +14,8 @@ use Rattle.codec.specs.Answers.{oneHandleAnswer}
 use Rattle.codec.specs.Bytes.{numbers, sameBytes}
 use Rattle.codec.specs.Maybe.{_>>=_, ask}
 use Rattle.codec.specs.Varint.{Handle, oneHandle}
-use Rattle.codec.proofs.BytesLaws.{same-same, same-bytes}
 use Rattle.codec.proofs.VarintCode.{no-one, a-one}
-use Rattle.codec.proofs.Prelude.{test, split, true-is}
-use Rattle.keys.specs.declared.cmp.Ordering.the-variants as OrderCase
-use Rattle.keys.specs.Answers.{orderAnswer}
-use Rattle.keys.specs.Order.{byBytes}
-use Rattle.keys.proofs.AnswerLaws.{less-is, equal-is, greater-is}
-use Rattle.keys.proofs.OrderLaws.{bytes-eq, bytes-same}
+use Rattle.codec.proofs.Prelude.{test, split}
 use Rattle.block_reader.specs.declared.block.EntryRead.the-variants as EntryCase
 use Rattle.block_reader.specs.declared.block.Kind as KindEnum
 use Rattle.block_reader.specs.declared.block.Kind.the-variants as KindCase
@@ -47,20 +41,6 @@ not-handle s e = rw (no-one s e, isHandle)
 pub one-handle-is : (s : List ℕ) {a b : ℕ} → oneHandleAnswer (oneHandle s) ≡ OneCase.Handle a b → true ≡ isHandle s
 unfolding isHandle
 one-handle-is s e = rw (a-one s e, isHandle)
-
--- ---- a key that is a name, by comparing the two
-
-pub name-same : (a b : List ℕ) → orderAnswer (byBytes a b) ≡ OrderCase.Equal → true ≡ sameBytes a b
-name-same a b e = rw (bytes-eq a b (equal-is (byBytes a b) e)) (sym (same-same b))
-
-name-apart : (a b : List ℕ) → (byBytes a b ≡ Ordering·eq → ⊥) → false ≡ sameBytes a b
-name-apart a b h = test (sameBytes a b) (λ t. absurd (h (rw (same-bytes a b (true-is t)) (bytes-same b)))) (λ t. sym t)
-
-pub name-less : (a b : List ℕ) → orderAnswer (byBytes a b) ≡ OrderCase.Less → false ≡ sameBytes a b
-name-less a b e = let l = less-is (byBytes a b) e in name-apart a b (λ h. let z : _≡_ {A = ℕ} 0 1 = cc in omega arith)
-
-pub name-greater : (a b : List ℕ) → orderAnswer (byBytes a b) ≡ OrderCase.Greater → false ≡ sameBytes a b
-name-greater a b e = let l = greater-is (byBytes a b) e in name-apart a b (λ h. let z : _≡_ {A = ℕ} 0 1 = cc in omega arith)
 
 -- ---- the limits of a kind
 

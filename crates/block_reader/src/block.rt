@@ -19,7 +19,6 @@ use codec::limits;
 use codec::limits::least;
 use codec::put::Written;
 use codec::varint::VarintRead;
-use keys::cmp::Ordering;
 
 pub enum Kind {
     Data,
@@ -309,11 +308,7 @@ fn hand(key: &mut [u8], found: &[u8], start: usize, value_at: usize, value_len: 
 pub fn is_bloom(key: &[u8]) -> bool
     ensures { λ r. ⌜ r ≡ sameBytes (now (key .entry)) bloomName ⌝ }
 {
-    match keys::cmp::cmp(key, b"filter.leveldb.BuiltinBloomFilter2") {
-        Ordering::Less => false,
-        Ordering::Equal => true,
-        Ordering::Greater => false,
-    }
+    keys::cmp::same(key, b"filter.leveldb.BuiltinBloomFilter2")
 }
 
 // Whether a key and its value are within the limits of a kind of block.
@@ -591,11 +586,7 @@ pub fn by_place(s: &[u8], at: usize, which: Which, key: &mut [u8]) -> Found
 fn is_below(key: &[u8], word: &[u8], sequence: u64) -> bool
     ensures { λ r. ⌜ r ≡ isLess (byPoint (pointOf (now (key .entry))) (record { word = now (word .entry); edition = sequence })) ⌝ }
 {
-    match keys::key_types::cmp_target(key, word, sequence) {
-        Ordering::Less => true,
-        Ordering::Equal => false,
-        Ordering::Greater => false,
-    }
+    keys::cmp::is_less(keys::key_types::cmp_target(key, word, sequence))
 }
 
 // Whether the entry at restart mid is below a target: it shares nothing, so its key is compared where it stands.

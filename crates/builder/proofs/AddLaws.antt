@@ -19,21 +19,23 @@ use Rattle.table.specs.Options.{Options, Addition, additionFits}
 use Rattle.table.specs.Build.{Building, keyOf, begin, closeBefore, add, finish, above, accept, acceptAll}
 use Rattle.table.proofs.CheckedLaws.{refuse-pass}
 use Rattle.table.specs.Runs.{Runs, between, overlaid, FitsRoom, roomOf}
-use Rattle.table.proofs.AcceptLaws.{within-parts}
+use Rattle.table.proofs.AcceptLaws.{within-parts, took, accept-more}
 use Rattle.codec.specs.Limits.{within}
 use Rattle.table.proofs.SufficeLaws.{runs-suffice}
+use Rattle.builder.specs.declared.table_builder.Answer.{Answer}
 use Rattle.builder.specs.declared.table_builder.Answer.the-variants as AnswerCase
 use Rattle.builder.specs.declared.table_builder.Lengths.{Lengths}
 use Rattle.builder.specs.declared.table_builder.Builder.{Builder}
 use Rattle.builder.specs.declared.table_builder.Plan.{Plan}
 use Rattle.builder.specs.declared.table_builder.Added.{Added}
-use Rattle.builder.specs.State.{lengthsOf, sane, Stands}
-use Rattle.builder.specs.Steps.{Ready, earlyOf, midOf, nextOf, enteredState, DecidedIs, cutOf, sepOf}
-use Rattle.builder.specs.Writes.{CutRuns, EnteredRuns, PutRuns, numbered, PutIs}
+use Rattle.builder.specs.State.{lengthsOf, seven, sane, Stands}
+use Rattle.builder.specs.Steps.{Whole, Ready, earlyOf, midOf, nextOf, enteredState, decideOf, DecidedIs, cutOf, sepOf}
+use Rattle.builder.specs.Writes.{ClosedOut, ClosedIndex, ClosedFilters, EnteredRuns}
 use Rattle.builder.specs.Answers.{answerOf, Later, Traced, AddedIs}
-use Rattle.builder.proofs.CloseLaws.{Counted, closed-all}
+use Rattle.builder.proofs.CloseLaws.{Counted, ClosedRuns, closed-kept, indexKey, index-key-closed, closed-all}
+use Rattle.builder.proofs.DecideLaws.{mid-cut}
 use Rattle.builder.proofs.EnterLaws.{enter-fits, entered-all}
-use Rattle.builder.proofs.TraceLaws.{took, accept-more, refusalOf, lengths-of, start-lengths, overlaid-itself, stands-counted, cut-close, no-cut-close, sep-short, mid-counted, roomy, addition-short, trace-began, trace-fits, trace-sane, trace-is-small, trace-next, trace-whole, trace-decides, next-short, next-lengths, mid-same}
+use Rattle.builder.proofs.TraceLaws.{refusalOf, lengths-of, start-lengths, overlaid-itself, stands-counted, cut-close, no-cut-close, sep-short, mid-counted, roomy, addition-short, trace-began, trace-fits, trace-sane, trace-is-small, trace-next, trace-whole, trace-decides, next-short, next-lengths, mid-same}
 
 -- ---- the key
 
@@ -54,6 +56,31 @@ module _ (d word : List ℕ) (edition kind : ℕ) (r : Written) (e : List ℕ) (
 
 -- ---- decided, and then written
 
+-- an addition written into the runs, by way of a cut
+pub record PutRuns (s : Builder) (key word value : List ℕ) (r r′ : Runs) : Type 0 where
+  pub mid : Runs
+  pub cut : ClosedRuns (cutOf s) s (indexKey (midOf s key)) r mid
+  pub entered : EnteredRuns (midOf s key) key word value (mid .out) (r′ .out) (mid .restarts) (r′ .restarts) (mid .hashes) (r′ .hashes)
+  pub index : r′ .index ≡ mid .index
+  pub filters : r′ .filters ≡ mid .filters
+  pub indexRestarts : r′ .indexRestarts ≡ mid .indexRestarts
+  pub offsets : r′ .offsets ≡ mid .offsets
+
+-- the answer of a number: 0, or a refusal's
+unfoldable pub numbered : ℕ → Answer
+numbered zero = AnswerCase.Ok
+numbered (suc n) = AnswerCase.Refused (suc n)
+
+-- an addition within the limits, to a sane state, answers x and leaves the runs so
+pub record PutIs (s : Builder) (l : Lengths) (key word value : List ℕ) (r r′ : Runs) (x : Added) : Type 0 where
+  pub number : ℕ
+  pub kind : (number ≡ 0) ⊎ ((number ≡ 4) ⊎ (number ≡ 5))
+  pub answer : x .answer ≡ numbered number
+  pub decided : Whole (nextOf s key (length value)) → number ≡ decideOf s l key (length value)
+  pub kept : (number ≡ 0 → ⊥) → (x .state ≡ s) × (r′ ≡ r)
+  pub state : number ≡ 0 → x .state ≡ nextOf s key (length value)
+  pub wrote : number ≡ 0 → PutRuns s key word value r r′
+
 module _ (s : Builder) (l : Lengths) (key word value : List ℕ) (r : Runs) where
   numbered-not : (n : ℕ) → (n ≡ 0 → ⊥) → AnswerCase.Refused n ≡ numbered n
   unfolding numbered
@@ -73,11 +100,15 @@ module _ (s : Builder) (l : Lengths) (key word value : List ℕ) (r : Runs) wher
         wrote = λ z. absurd (n z);
       }
 
-  pub put-done : {p : Plan} → DecidedIs s l key (length value) p → p .answer ≡ 0 → (r₁ r₂ : Runs) → CutRuns s key r r₁
-      → EnteredRuns (p .mid) key word value (r₁ .out) (r₂ .out) (r₁ .restarts) (r₂ .restarts) (r₁ .hashes) (r₂ .hashes)
-      → r₂ .index ≡ r₁ .index → r₂ .filters ≡ r₁ .filters → r₂ .indexRestarts ≡ r₁ .indexRestarts → r₂ .offsets ≡ r₁ .offsets
-      → PutIs s l key word value r r₂ (record { answer = AnswerCase.Ok; state = p .next })
-  put-done {p} h z r₁ r₂ c e x₁ x₂ x₃ x₄ =
+  pub put-done : {p : Plan} → DecidedIs s l key (length value) p → p .answer ≡ 0 → {out₁ index₁ filters₁ indexRestarts₁ offsets₁ out₂ restarts₂ hashes₂ : List ℕ}
+      → ClosedOut (p .cut) s (r .out) out₁ (r .restarts)
+      → ClosedIndex (p .cut) s (take (p .mid .indexed .len) (p .mid .indexed .last)) (r .index) index₁ (r .indexRestarts) indexRestarts₁
+      → ClosedFilters (p .cut) s (r .filters) filters₁ (r .offsets) offsets₁ (r .hashes)
+      → EnteredRuns (p .mid) key word value out₁ out₂ (r .restarts) restarts₂ (r .hashes) hashes₂
+      → PutIs s l key word value r (seven out₂ index₁ filters₁ restarts₂ indexRestarts₁ offsets₁ hashes₂) (record { answer = AnswerCase.Ok; state = p .next })
+  put-done {p} h z {out₁} {index₁} {filters₁} {indexRestarts₁} {offsets₁} o i f e =
+      let c : ClosedRuns (p .cut) s (indexKey (p .mid)) r (seven out₁ index₁ filters₁ (r .restarts) indexRestarts₁ offsets₁ (r .hashes)) =
+      unfold indexKey in record { out = o; index = i; filters = f; restarts = refl; hashes = refl } in
       record {
         number = p .answer;
         kind = h .kind;
@@ -85,7 +116,7 @@ module _ (s : Builder) (l : Lengths) (key word value : List ℕ) (r : Runs) wher
         decided = h .answer;
         kept = λ n. absurd (n z);
         state = h .next;
-        wrote = λ q. record { mid = r₁; cut = c; entered = rw (h .mid z) at e; index = x₁; filters = x₂; indexRestarts = x₃; offsets = x₄ };
+        wrote = λ q. record { mid = _; cut = rw (h .mid z, h .cut z) at c; entered = rw (h .mid z) at e; index = refl; filters = refl; indexRestarts = refl; offsets = refl };
       }
 
 -- ---- the trace
@@ -99,7 +130,7 @@ module _ (o : Options) (more : List Addition) (b : Building) (s : Builder) (r : 
   h = stands-counted t
 
   added-is : add o b a ≡ c
-  added-is = took o room b a c q
+  added-is = took o room b a c q .is
 
   after-fits : FitsRoom room (between o (add o b a))
   after-fits =
@@ -119,11 +150,14 @@ module _ (o : Options) (more : List Addition) (b : Building) (s : Builder) (r : 
   mid-runs =
       let small = trace-is-small o more b s r e t in
       let z = trace-began o more b s r e t in
+      let sep = sepOf s (keyOf a) in
+      let k = sep-short h small (t .short .0) a in
       test (cutOf s)
       (λ u.
       let w = cut-close h small (t .short .0) a u in
-      rw w (closed-all h small (sepOf s (keyOf a)) (sep-short h small (t .short .0) a) room r (g .mid) (z .rooms) (trace-fits o more b s r e t .0) (rw w at mid-fits) (t .runs) (g .cut .cut u)))
-      (λ u. rw (no-cut-close h small (t .short .0) a u) (g .cut .kept u ∙ t .runs))
+      let i : indexKey (midOf s (keyOf a)) ≡ sep = ap indexKey (sym (mid-cut s (keyOf a) refl u)) ∙ index-key-closed s sep k (h .whole .indexed) in
+      rw w (closed-all h small sep k room r (g .mid) (z .rooms) (trace-fits o more b s r e t .0) (rw w at mid-fits) (t .runs) u (rw i at (g .cut))))
+      (λ u. rw (no-cut-close h small (t .short .0) a u) (closed-kept (g .cut) u ∙ t .runs))
 
   add-runs : r₂ ≡ overlaid (between o (add o b a)) r
   unfolding add

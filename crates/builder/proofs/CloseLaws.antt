@@ -2,7 +2,7 @@
 use Prim.Native.Nat.{ℕ, _+_, _-_, _/_, _^_, _≤_, _<_}
 use mathlib.Core.Path.{_≡_, refl, sym, ap, ap₂, _∙_}
 use mathlib.Core.List.{List, [], _∷_, _++_, map, append-nil}
-use mathlib.Core.Bool.{true}
+use mathlib.Core.Bool.{Bool, true, false}
 use native.Mathlib.Nat.{zero-add, add-zero}
 use native.Mathlib.Omega.{arith}
 use lib.ListN.{length, take, drop, length-append, length-replicate}
@@ -12,7 +12,7 @@ use Rattle.codec.specs.Bytes.{part}
 use Rattle.codec.specs.Checksum.{trailer}
 use Rattle.codec.specs.Put.{room, put}
 use Rattle.codec.specs.Varint.{handleBytes}
-use Rattle.codec.proofs.PutLaws.{put-put, put-behind, put-length}
+use Rattle.codec.proofs.PutLaws.{put-put, put-behind, put-front, put-length}
 use Rattle.codec.proofs.TrailerLaws.{trailer-length}
 use Rattle.codec.proofs.VarintLaws.{handle-long}
 use Rattle.block_builder.specs.declared.block_builder.BlockBuilder.{BlockBuilder}
@@ -29,17 +29,18 @@ use Rattle.filters.specs.FilterCount.{FilterCount, filterCountOf}
 use Rattle.filter_block.specs.Choice.{choiceOf}
 use Rattle.filter_block.specs.Make.{groupsUpTo, roomFor, MadeFilters}
 use Rattle.filters.proofs.FilterBlockLaws.{made-append, starts-length}
-use Rattle.table.specs.Options.{Options, indexInterval, tableLimit}
+use Rattle.table.specs.Options.{Options, indexInterval}
 use Rattle.table.specs.Build.{Chunk, Building, pairOf, framed, chunkBytes, written, endOf, indexPairs, filtersOf, close}
 use Rattle.table.specs.Runs.{Runs, filtersNow, entriesOf, restartsIn, held, between, overlay, overlaid, FitsRoom}
 use Rattle.table.specs.Counts.{Counts, countsOf, countClose}
 use Rattle.table.proofs.FrameLaws.{framed-length}
 use Rattle.table.proofs.StepLaws.{written-append, index-append, filters-append}
+use Rattle.table.proofs.SufficeLaws.{Rooms}
 use Rattle.table.proofs.CountsLaws.{wait-none, handle-length, chunk-size, counts-close}
 use Rattle.builder.specs.declared.table_builder.Builder.{Builder}
 use Rattle.builder.specs.State.{optionsOf, countsIn}
 use Rattle.builder.specs.Steps.{Small, Whole, openSize, endsAt, closedState}
-use Rattle.builder.specs.Writes.{tailedOut, sealedOut, ClosedRuns}
+use Rattle.builder.specs.Writes.{tailedOut, sealedOut, ClosedOut, ClosedIndex, ClosedFilters}
 use Rattle.builder.proofs.SizeLaws.{closed-counts, index-countable}
 use Rattle.table.proofs.OverlayLaws.{overlay-none, overlay-front, overlay-of, overlay-put, overlay-first, overlay-same}
 use Rattle.builder.proofs.GroupLaws.{filters-until, waits-until, starts-append}
@@ -52,17 +53,6 @@ pub record Counted (o : Options) (b : Building) (s : Builder) : Type 0 where
   pub interval : s .pending .interval ≡ o .interval
   pub indexInterval : s .indexed .interval ≡ indexInterval o
   pub whole : Whole s
-
--- runs that are long enough for a room
-pub record Rooms (room : ℕ) (r : Runs) : Type 0 where
-  pub limit : room ≤ tableLimit
-  pub out : room ≤ length (r .out)
-  pub index : room ≤ length (r .index)
-  pub filters : room ≤ length (r .filters)
-  pub restarts : room / 4 ≤ length (r .restarts)
-  pub indexRestarts : room / 4 ≤ length (r .indexRestarts)
-  pub offsets : room / 4 ≤ length (r .offsets)
-  pub hashes : room / 4 ≤ length (r .hashes)
 
 -- the lengths of what the runs hold are the state's numbers
 pub record Lens (d : Runs) (s : Builder) : Type 0 where
@@ -168,6 +158,32 @@ module _ {o : Options} {b : Building} {s : Builder} (h : Counted o b s) where
         entries = rw (index-bytes-is, p) (take-at (packed i i [] is) (drop (length (packed i i [] is)) r) (length (packed i i [] is)) refl);
         marks = rw (index-restarts-is, m) (take-at (restartsOf i i [] 0 is) (drop (length (restartsOf i i [] 0 is)) r′) (length (restartsOf i i [] 0 is)) refl);
       }
+
+-- ---- the open block closed, or not: what that leaves in the runs
+
+pub record ClosedRuns (closing : Bool) (s : Builder) (key : List ℕ) (r r′ : Runs) : Type 0 where
+  pub out : ClosedOut closing s (r .out) (r′ .out) (r .restarts)
+  pub index : ClosedIndex closing s key (r .index) (r′ .index) (r .indexRestarts) (r′ .indexRestarts)
+  pub filters : ClosedFilters closing s (r .filters) (r′ .filters) (r .offsets) (r′ .offsets) (r .hashes)
+  pub restarts : r′ .restarts ≡ r .restarts
+  pub hashes : r′ .hashes ≡ r .hashes
+
+pub closed-kept : {closing : Bool} {s : Builder} {key : List ℕ} {r r′ : Runs} → ClosedRuns closing s key r r′ → closing ≡ false → r′ ≡ r
+closed-kept g e =
+    let x₀ = g .out .kept e in
+    let x₁ = g .index .kept e in
+    let x₂ = g .filters .kept e in
+    let x₃ = g .restarts in
+    let x₄ = g .hashes in
+    λ i. record { out = x₀ i; index = x₁ .0 i; filters = x₂ .0 i; restarts = x₃ i; indexRestarts = x₁ .1 i; offsets = x₂ .1 i; hashes = x₄ i }
+
+-- the key that the last block was indexed under
+unfoldable pub indexKey : Builder → List ℕ
+indexKey s = take (s .indexed .len) (s .indexed .last)
+
+pub index-key-closed : (s : Builder) (key : List ℕ) → length key ≤ 1032 → length (s .indexed .last) ≡ 1032 → indexKey (closedState s key) ≡ key
+unfolding indexKey closedState builderAfter builderWith
+index-key-closed s key k w = rw zero-add at (put-front (s .indexed .last) 0 key (omega arith))
 
 -- ---- an entry that fits
 
@@ -358,16 +374,16 @@ module _ {o : Options} {b : Building} {s : Builder} (h : Counted o b s) (m : Sma
       )
 
   -- all seven
-  pub closed-all : (room : ℕ) (r r′ : Runs) → Rooms room r → FitsRoom room (between o b) → FitsRoom room (between o d) → r ≡ overlaid (between o b) r → ClosedRuns s key r r′
+  pub closed-all : (room : ℕ) (r r′ : Runs) → Rooms room r → FitsRoom room (between o b) → FitsRoom room (between o d) → r ≡ overlaid (between o b) r → {closing : Bool} → closing ≡ true → ClosedRuns closing s key r r′
       → r′ ≡ overlaid (between o d) r
   unfolding overlaid
-  closed-all room r r′ z t u p g =
+  closed-all room r r′ z t u p y g =
       let lo = u .out in
-      let ix = closed-index (r .index) (r .indexRestarts) (g .index) (ap (λ (x : Runs). x .index) p) (ap (λ (x : Runs). x .indexRestarts) p) (omega (arith, u .index, z .index))
+      let ix = closed-index (r .index) (r .indexRestarts) (g .index .done y) (ap (λ (x : Runs). x .index) p) (ap (λ (x : Runs). x .indexRestarts) p) (omega (arith, u .index, z .index))
       (omega (arith, u .indexRestarts, z .indexRestarts)) (omega (arith, t .index, z .limit)) in
-      let fx = closed-filters (r .filters) (r .offsets) (r .hashes) (g .filters) (ap (λ (x : Runs). x .hashes) p) (ap (λ (x : Runs). x .filters) p) (ap (λ (x : Runs). x .offsets) p)
+      let fx = closed-filters (r .filters) (r .offsets) (r .hashes) (g .filters .done y) (ap (λ (x : Runs). x .hashes) p) (ap (λ (x : Runs). x .filters) p) (ap (λ (x : Runs). x .offsets) p)
       (omega (arith, u .filters, z .filters)) (omega (arith, u .offsets, z .offsets)) (omega (arith, u .filters, z .limit)) in
-      let ox = g .out ∙ closed-out (r .out) (r .restarts) (ap (λ (x : Runs). x .out) p) (ap (λ (x : Runs). x .restarts) p) (omega (arith, u .out, z .out)) in
+      let ox = g .out .done y ∙ closed-out (r .out) (r .restarts) (ap (λ (x : Runs). x .out) p) (ap (λ (x : Runs). x .restarts) p) (omega (arith, u .out, z .out)) in
       let rx : r′ .restarts ≡ overlay (between o d .restarts) (r .restarts) = g .restarts ∙ (unfold between held close restartsIn restartsOf in overlay-none (r .restarts)) in
       let hx = g .hashes ∙ closed-hashes (r .hashes) (ap (λ (x : Runs). x .hashes) p) in
       λ i. record { out = ox i; index = ix .0 i; filters = fx .0 i; restarts = rx i; indexRestarts = ix .1 i; offsets = fx .1 i; hashes = hx i }

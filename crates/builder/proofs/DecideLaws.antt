@@ -174,15 +174,15 @@ module _ (s : Builder) (l : Lengths) where
 -- ---- all of it
 
 module _ (s : Builder) (l : Lengths) (key : List ℕ) (v : ℕ) (m n : Builder) where
-  pub decided-large : {t : Bool} → t ≡ small s → t ≡ false → DecidedIs s l key v (record { answer = 5; mid = m; next = n })
+  pub decided-large : {t : Bool} → t ≡ small s → t ≡ false → DecidedIs s l key v (record { answer = 5; cut = false; mid = m; next = n })
   unfolding decideOf
   decided-large e f =
-      record { kind = inr (inr refl); answer = λ w. rw (sym e ∙ f); mid = λ z. absurd (omega arith); next = λ z. absurd (omega arith); small = λ z. absurd (omega arith) }
+      record { kind = inr (inr refl); answer = λ w. rw (sym e ∙ f); cut = λ z. absurd (omega arith); mid = λ z. absurd (omega arith); next = λ z. absurd (omega arith); small = λ z. absurd (omega arith) }
 
-  pub decided-low : {t u : Bool} → t ≡ small s → t ≡ true → u ≡ aboveLast s key → u ≡ false → DecidedIs s l key v (record { answer = 4; mid = m; next = n })
+  pub decided-low : {t u : Bool} → t ≡ small s → t ≡ true → u ≡ aboveLast s key → u ≡ false → DecidedIs s l key v (record { answer = 4; cut = false; mid = m; next = n })
   unfolding decideOf
   decided-low e f g h =
-      record { kind = inr (inl refl); answer = λ w. rw (sym e ∙ f, sym g ∙ h); mid = λ z. absurd (omega arith); next = λ z. absurd (omega arith); small = λ z. absurd (omega arith) }
+      record { kind = inr (inl refl); answer = λ w. rw (sym e ∙ f, sym g ∙ h); cut = λ z. absurd (omega arith); mid = λ z. absurd (omega arith); next = λ z. absurd (omega arith); small = λ z. absurd (omega arith) }
 
   module _ {t u r : Bool} (e : t ≡ small s) (f : t ≡ true) (g : u ≡ aboveLast s key) (h : u ≡ true) {m′ n′ : Builder} (p : m′ ≡ midOf s key) (q : n′ ≡ enteredState m′ key v)
       (k : Whole n′ → r ≡ fitsOf n′ l) where
@@ -193,17 +193,18 @@ module _ (s : Builder) (l : Lengths) (key : List ℕ) (v : ℕ) (m n : Builder) 
     fits-is : Whole (nextOf s key v) → fitsOf (nextOf s key v) l ≡ r
     fits-is w = ap (λ (x : Builder). fitsOf x l) (sym next-is) ∙ sym (k (rw next-is w))
 
-    pub decided-full : r ≡ false → DecidedIs s l key v (record { answer = 5; mid = m; next = n })
+    pub decided-full : r ≡ false → DecidedIs s l key v (record { answer = 5; cut = false; mid = m; next = n })
     unfolding decideOf
     decided-full j =
         record {
           kind = inr (inr refl);
           answer = λ w. rw (sym e ∙ f, sym g ∙ h, fits-is w ∙ j);
+          cut = λ z. absurd (omega arith);
           mid = λ z. absurd (omega arith);
           next = λ z. absurd (omega arith);
           small = λ z. absurd (omega arith);
         }
 
-    pub decided-ok : Small s → r ≡ true → DecidedIs s l key v (record { answer = 0; mid = m′; next = n′ })
+    pub decided-ok : Small s → {c : Bool} → c ≡ cutOf s → r ≡ true → DecidedIs s l key v (record { answer = 0; cut = c; mid = m′; next = n′ })
     unfolding decideOf
-    decided-ok i j = record { kind = inl refl; answer = λ w. rw (sym e ∙ f, sym g ∙ h, fits-is w ∙ j); mid = λ z. p; next = λ z. next-is; small = λ z. i }
+    decided-ok i c j = record { kind = inl refl; cut = λ z. c; answer = λ w. rw (sym e ∙ f, sym g ∙ h, fits-is w ∙ j); mid = λ z. p; next = λ z. next-is; small = λ z. i }

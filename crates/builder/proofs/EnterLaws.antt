@@ -27,13 +27,14 @@ use Rattle.table.specs.Build.{Building, keyOf, pairOf, written}
 use Rattle.table.specs.Runs.{Runs, filtersNow, entriesOf, restartsIn, held, between, overlay, overlaid, FitsRoom}
 use Rattle.table.specs.Counts.{Counts, countsOf}
 use Rattle.table.proofs.CountsLaws.{counts-put}
+use Rattle.table.proofs.SufficeLaws.{Rooms}
 use Rattle.builder.specs.declared.table_builder.Builder.{Builder}
 use Rattle.builder.specs.State.{countsIn}
 use Rattle.builder.specs.Steps.{Roomy, enteredState}
 use Rattle.builder.specs.Writes.{EnteredRuns}
 use Rattle.builder.proofs.SizeLaws.{count-after, countable-small}
 use Rattle.table.proofs.OverlayLaws.{overlay-behind, overlay-of, overlay-put, overlay-first, overlay-at, overlay-long}
-use Rattle.builder.proofs.CloseLaws.{Counted, Rooms, lens, open-stands, written-is, bytes-is, restarts-is, waiting-is, fits-addable}
+use Rattle.builder.proofs.CloseLaws.{Counted, lens, open-stands, written-is, bytes-is, restarts-is, waiting-is, fits-addable}
 
 -- the building with an addition in the open block
 abbrev pub with : Building → Addition → Building

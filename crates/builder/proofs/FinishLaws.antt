@@ -1,6 +1,6 @@
 -- What the end of a table is written by: blocks and their trailers, and the footer.
 use Prim.Native.Nat.{ℕ, zero, suc, _+_, _-_, _≤_}
-use mathlib.Core.Path.{_≡_, refl, sym, ap, ap₂, _∙_}
+use mathlib.Core.Path.{_≡_, sym, ap, ap₂, _∙_}
 use mathlib.Core.List.{List, [], _∷_, _++_, append-assoc, append-nil}
 use mathlib.Core.Bool.{true}
 use native.Mathlib.Nat.{zero-add, add-zero, suc-add}
@@ -32,10 +32,7 @@ use Rattle.filters.specs.FilterBlock.{unfiltered, bitsPerKey}
 use Rattle.filter_block.specs.Choice.{choiceOf}
 use Rattle.table.specs.Build.{framed, metaName, footerBytes}
 use Rattle.table.specs.Table.{magic}
-use Rattle.table.specs.Runs.{Runs}
-use Rattle.builder.specs.declared.table_builder.Builder.{Builder}
-use Rattle.builder.specs.Steps.{lastOf}
-use Rattle.builder.specs.Writes.{tailedOut, sealedOut, ClosedRuns, LastRuns, Framed}
+use Rattle.builder.specs.Writes.{tailedOut, sealedOut, Framed}
 use Rattle.builder.proofs.SizeLaws.{entry-restarts, countable-small, name-most}
 use Rattle.builder.proofs.WriteLaws.{sealed-is}
 use Rattle.builder.proofs.CloseLaws.{part-put, fits-addable}
@@ -184,14 +181,6 @@ pub footer-is : (m i : Handle) {f₁ f₂ f₃ : List ℕ} {n : ℕ} → f₁ �
     → f₃ ≡ footerBytes m i
 unfolding footerBytes
 footer-is m i p q r w = foot-is (handleBytes m) (handleBytes i) (handle-long m) (handle-long i) p q r w
-
--- ---- the last block, and the last filter
-
-pub last-closed : (s : Builder) (r r′ : Runs) → (s .pending .restarts ≡ 0 → ⊥) → {k : List ℕ} → k ≡ lastOf s → ClosedRuns s k r r′ → LastRuns s r r′
-last-closed s r r′ n q g = record { some = λ z. rw q at g; none = λ z. absurd (n z) }
-
-pub last-empty : (s : Builder) (r : Runs) → s .pending .restarts ≡ 0 → LastRuns s r r
-last-empty s r e = record { some = λ n. absurd (n e); none = λ z. refl }
 
 pub foot-next : (offset size : ℕ) {e : List ℕ} {r : Written} {n : ℕ} → Wrote (replicate 48 0) 0 (handleBytes (record { offset = offset; size = size })) r e → r ≡ At n
     → n ≡ 0 + length (handleBytes (record { offset = offset; size = size }))

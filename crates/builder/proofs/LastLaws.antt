@@ -3,12 +3,13 @@ use Prim.Native.Nat.{ℕ, _+_, _-_, _/_, _^_, _≤_, _<_}
 use mathlib.Core.Path.{_≡_, refl, sym, ap, ap₂, _∙_}
 use mathlib.Core.Logic.{_⊎_, inl, inr}
 use mathlib.Core.List.{List, [], _∷_, _++_, map, append-nil}
-use mathlib.Core.Bool.{true}
+use mathlib.Core.Bool.{Bool, true, not}
 use native.Mathlib.Nat.{zero-add}
 use native.Mathlib.Omega.{arith}
+use lib.Dec.{eqb}
 use lib.ListN.{length, take, length-append}
 use Rattle.codec.proofs.Lists.{no-length}
-use borrow.Author.Tests.{le-leb}
+use borrow.Author.Tests.{le-leb, eq-eqb, ne-eqb}
 use Rattle.codec.proofs.Prelude.{split}
 use Rattle.blocks.specs.Block.{packed, restartsOf}
 use Rattle.blocks.specs.Count.{BlockCount, countOf}
@@ -28,13 +29,14 @@ use Rattle.table.specs.Runs.{Runs, filtersNow, entriesOf, restartsIn, held, bet
 use Rattle.table.specs.Counts.{finishedSize}
 use Rattle.table.proofs.StepLaws as Step
 use Rattle.table.proofs.CountsLaws.{size-finished, no-open, last-filters}
+use Rattle.table.proofs.SufficeLaws.{Rooms}
 use Rattle.builder.specs.declared.table_builder.Builder.{Builder}
 use Rattle.builder.specs.declared.table_builder.FilterSizes.{FilterSizes}
 use Rattle.builder.specs.declared.table_builder.Ending.{Ending}
 use Rattle.builder.specs.declared.table_builder.Outcome.the-variants as OutcomeCase
-use Rattle.builder.specs.State.{optionsOf, countsIn, lengthsOf, sane, Stands}
+use Rattle.builder.specs.State.{optionsOf, countsIn, lengthsOf, seven, sane, Stands}
 use Rattle.builder.specs.Steps.{small, Small, filterCountIn, filtersIn, lastOf, closedState, lastState, earlyOf, lastFilters, endable, EndingIs}
-use Rattle.builder.specs.Writes.{LastRuns, LastFilters, filterBlock, metaBlock, EndFits, EndPut, EndRuns}
+use Rattle.builder.specs.Writes.{ClosedOut, ClosedIndex, ClosedFilters, LastFilters, filterBlock, metaBlock, EndFits, EndPut}
 use Rattle.builder.specs.Answers.{overState, FinishedIs}
 use Rattle.builder.proofs.SizeLaws as Size
 use Rattle.builder.proofs.DecideLaws.{sane-is, last-short}
@@ -42,8 +44,26 @@ use Rattle.builder.proofs.AddLaws.{early-zero, early-traced}
 use Rattle.table.proofs.OverlayLaws.{overlay-none, overlay-front, overlay-put, overlay-long}
 use Rattle.filter_block.proofs.MakeLaws.{groups-some}
 use Rattle.builder.proofs.GroupLaws.{starts-append}
-use Rattle.builder.proofs.CloseLaws.{Counted, Rooms, lens, counting, index-stands, filters-is, filtered-is, made-is, waiting-is, written-is, options-filter, options-interval, made-room, closed-counted, waits-close, closed-all}
+use Rattle.builder.proofs.CloseLaws.{Counted, ClosedRuns, closed-kept, indexKey, index-key-closed, lens, counting, index-stands, filters-is, filtered-is, made-is, waiting-is, written-is, options-filter, options-interval, made-room, closed-counted, waits-close, closed-all}
 use Rattle.builder.proofs.TraceLaws.{stands-counted, trace-began, trace-fits, trace-small, trace-is-small, trace-sane, last-is}
+
+-- ---- what the last writes leave in the runs
+
+-- a pending block written, and indexed under its last key
+pub record LastRuns (s : Builder) (r r′ : Runs) : Type 0 where
+  pub some : (s .pending .restarts ≡ 0 → ⊥) → ClosedRuns true s (indexKey (lastState s)) r r′
+  pub none : s .pending .restarts ≡ 0 → r′ ≡ r
+
+-- all that is left of a table, written
+pub record EndRuns (s last : Builder) (f : FilterSizes) (r r′ : Runs) : Type 0 where
+  pub mid : Runs
+  pub closed : LastRuns s r mid
+  pub filters : LastFilters last (mid .filters) (r′ .filters) (mid .offsets) (r′ .offsets) (mid .hashes)
+  pub out : EndPut last f (r′ .filters) (r′ .offsets) (mid .index) (mid .indexRestarts) (mid .out) (r′ .out)
+  pub index : r′ .index ≡ mid .index
+  pub indexRestarts : r′ .indexRestarts ≡ mid .indexRestarts
+  pub restarts : r′ .restarts ≡ r .restarts
+  pub hashes : r′ .hashes ≡ r .hashes
 
 last-no : (f : Filters) → f .waiting ≡ [] → lastFilter f ≡ f
 unfolding lastFilter
@@ -156,7 +176,9 @@ module _ (o : Options) (more : List Addition) (b : Building) (s : Builder) (r : 
     mid-runs =
         cases
         (λ x y z. rw x (g .none z ∙ t .runs))
-        (λ x y z. rw x (closed-all h is-small (lastOf s) short room r r₁ rooms (trace-fits o more b s r e t .0) (rw x at mid-fits) (t .runs) (g .some z)))
+        (λ x y z.
+        let i : indexKey mid ≡ lastOf s = ap indexKey y ∙ index-key-closed s (lastOf s) short (h .whole .indexed) in
+        rw x (closed-all h is-small (lastOf s) short room r r₁ rooms (trace-fits o more b s r e t .0) (rw x at mid-fits) (t .runs) refl (rw i at (g .some z))))
 
     eq-out : r₁ .out ≡ overlay (written o (c .closed)) (r .out)
     unfolding overlaid
@@ -378,7 +400,7 @@ module _ (s : Builder) (r : Runs) {n : ℕ} (q : n ≡ earlyOf s (lengthsOf r) t
         five (inr x) = x
 
     module _ (k : p .answer ≡ 0) where
-      pub finish-ready : (Small s) × ((s .pending .len ≤ 1032) × (EndFits (p .last) (p .sizes) (length (r .filters)) (length (r .offsets)) (length (r .index)) × (p .last .made < 2 ^ 63)))
+      pub finish-ready : Small s × (EndFits (p .last) (p .sizes) (length (r .filters)) (length (r .offsets)) (length (r .index)) × (p .last .made < 2 ^ 63))
       unfolding lengthsOf lastFilters filtersIn
       finish-ready =
           let x = sane-is s (lengthsOf r) (finish-is-sane z) in
@@ -389,21 +411,46 @@ module _ (s : Builder) (r : Runs) {n : ℕ} (q : n ≡ earlyOf s (lengthsOf r) t
           let v = Size.last-sizes s m l (p .last) (p .sizes) (g .last k) ef in (
             m,
             (
-              x .len,
-              (
-                record { written = v .2; filterBytes = v .0; made = v .1; indexSize = v .3; inFilters = w .0; inOffsets = w .1 .0; inIndex = w .1 .1 },
-                omega (arith, Size.last-room s m l (p .last) (g .last k) .1),
-              ),
+              record { written = v .2; filterBytes = v .0; made = v .1; indexSize = v .3; inFilters = w .0; inOffsets = w .1 .0; inIndex = w .1 .1 },
+              omega (arith, Size.last-room s m l (p .last) (g .last k) .1),
             ),
           )
 
-      pub finish-done : (r′ : Runs) → EndRuns s (p .last) (p .sizes) r r′ → {x : Builder} → x ≡ overState s → FinishedIs s r r′ (record { answer = OutcomeCase.Size (p .size); state = x })
-      finish-done r′ f {x} ex =
-          record {
-            early = λ y. absurd (y (sym q ∙ z));
-            later = λ y m u. absurd (let v : _≡_ {A = ℕ} 0 1 = cc in omega arith);
-            refused = λ m u. absurd (let v : _≡_ {A = ℕ} 0 1 = cc in omega arith);
-            over = λ m u. ex;
-            answer = λ o more b e t. ap OutcomeCase.Size (end-decides o more b s r e t g .1);
-            runs = λ o more b e t. end-runs o more b s r e t (p .sizes) (g .sizes k) r′ (rw (g .last k) at f);
-          }
+      module _ {closing : Bool} (c : closing ≡ not (eqb (s .pending .restarts) 0)) {out₁ index₁ filters₁ indexRestarts₁ offsets₁ filters₂ offsets₂ out₂ : List ℕ}
+          (co : ClosedOut closing s (r .out) out₁ (r .restarts))
+          (ci : ClosedIndex closing s (take (p .last .indexed .len) (p .last .indexed .last)) (r .index) index₁ (r .indexRestarts) indexRestarts₁)
+          (cf : ClosedFilters closing s (r .filters) filters₁ (r .offsets) offsets₁ (r .hashes))
+          (lf : LastFilters (p .last) filters₁ filters₂ offsets₁ offsets₂ (r .hashes))
+          (ep : EndPut (p .last) (p .sizes) filters₂ offsets₂ index₁ indexRestarts₁ out₁ out₂) where
+        abbrev r′ : Runs
+        r′ = seven out₂ index₁ filters₂ (r .restarts) indexRestarts₁ offsets₂ (r .hashes)
+
+        ended : EndRuns s (lastState s) (p .sizes) r r′
+        ended =
+            let d : ClosedRuns closing s (indexKey (p .last)) r (seven out₁ index₁ filters₁ (r .restarts) indexRestarts₁ offsets₁ (r .hashes)) =
+            unfold indexKey in record { out = co; index = ci; filters = cf; restarts = refl; hashes = refl } in
+            record {
+              mid = _;
+              closed =
+                  record {
+                    some = λ n. rw (g .last k, c ∙ ap not (ne-eqb (s .pending .restarts) 0 n)) at d;
+                    none = λ n. closed-kept d (c ∙ ap not (eq-eqb (s .pending .restarts) 0 n));
+                  };
+              filters = rw (g .last k) at lf;
+              out = rw (g .last k) at ep;
+              index = refl;
+              indexRestarts = refl;
+              restarts = refl;
+              hashes = refl;
+            }
+
+        pub finish-done : {x : Builder} → x ≡ overState s → FinishedIs s r r′ (record { answer = OutcomeCase.Size (p .size); state = x })
+        finish-done {x} ex =
+            record {
+              early = λ y. absurd (y (sym q ∙ z));
+              later = λ y m u. absurd (let v : _≡_ {A = ℕ} 0 1 = cc in omega arith);
+              refused = λ m u. absurd (let v : _≡_ {A = ℕ} 0 1 = cc in omega arith);
+              over = λ m u. ex;
+              answer = λ o more b e t. ap OutcomeCase.Size (end-decides o more b s r e t g .1);
+              runs = λ o more b e t. end-runs o more b s r e t (p .sizes) (g .sizes k) r′ ended;
+            }

@@ -1,5 +1,5 @@
 -- A state and runs that stand for a table: an addition is decided as the definitions say, and leaves what they say.
-use Prim.Native.Nat.{ℕ, _+_, _/_, _≤_, min}
+use Prim.Native.Nat.{ℕ, _+_, _≤_}
 use mathlib.Core.Path.{_≡_, refl, sym, ap, ap₂, _∙_}
 use mathlib.Core.List.{List, [], _∷_, _++_, map}
 use mathlib.Core.Bool.{Bool, true, false, _&&_}
@@ -7,7 +7,7 @@ use native.Mathlib.Omega.{arith}
 use lib.Dec.{leb, ltb, eqb}
 use lib.ListN.{length}
 use borrow.Author.Tests.{le-leb, leb-true, eq-eqb}
-use Rattle.codec.proofs.Prelude.{test, both, is-true, true-is}
+use Rattle.codec.proofs.Prelude.{test, both, true-is}
 use Rattle.keys.specs.Order.{below, separator}
 use Rattle.keys.proofs.KeyLaws.{internal-length}
 use Rattle.blocks.specs.Block.{Pair, sinceAll}
@@ -16,15 +16,13 @@ use Rattle.blocks.specs.Count.{BlockCount, countOf}
 use Rattle.block_builder.specs.Builder.{countIn, builderAfter, builderWith}
 use Rattle.blocks.proofs.CountLaws.{count-zero}
 use Rattle.table.specs.Checked.{Checked, pass, refuse, _>>=_, ask}
-use Rattle.table.specs.Options.{Options, indexInterval, optionsFit, emptySize, tableLimit, Addition, additionFits}
+use Rattle.table.specs.Options.{Options, indexInterval, optionsFit, tableLimit, Addition, additionFits}
 use Rattle.table.specs.Build.{Building, keyOf, pairOf, chunkBytes, begin, lastKey, indexPairs, close, closeBefore, add, finish, above, accept, acceptAll}
 use Rattle.table.specs.Runs.{Runs, between, finished, overlay, overlaid, FitsRoom, roomOf, startOf}
 use Rattle.table.specs.Counts.{finishedSize}
-use Rattle.table.proofs.CheckedLaws.{passing, asking, ask-pass, pass-same}
-use Rattle.table.proofs.AcceptLaws.{within-parts}
+use Rattle.table.proofs.AcceptLaws.{within-parts, accept-more}
 use Rattle.table.proofs.CountsLaws.{size-finished}
-use Rattle.table.proofs.StepLaws.{empty-most}
-use Rattle.table.proofs.SufficeLaws.{runs-suffice}
+use Rattle.table.proofs.SufficeLaws.{runs-suffice, Rooms, Began, began}
 use Rattle.builder.specs.declared.table_builder.Lengths.{Lengths}
 use Rattle.builder.specs.declared.table_builder.Builder.{Builder}
 use Rattle.builder.specs.State.{optionsOf, countsIn, lengthsOf, sameLengths, sizesFit, sane, Stands}
@@ -32,43 +30,8 @@ use Rattle.builder.specs.Steps.{small, Small, Whole, Roomy, lastOf, clos
 use Rattle.builder.proofs.SizeLaws.{since-most, small-is}
 use Rattle.builder.proofs.DecideLaws.{sep-most, last-short, mid-not, mid-cut, mid-roomy, above-none, above-some}
 use Rattle.table.proofs.OverlayLaws.{overlay-front, overlay-of, overlay-long}
-use Rattle.builder.proofs.CloseLaws.{Counted, Rooms, lens, counting, index-counting, open-size, options-interval, closed-counted}
+use Rattle.builder.proofs.CloseLaws.{Counted, lens, counting, index-counting, open-size, options-interval, closed-counted}
 use Rattle.builder.proofs.EnterLaws.{entered-counted}
-
--- ---- what start asked for
-
-pub record Began (o : Options) (r : Runs) : Type 0 where
-  pub fits : optionsFit o ≡ true
-  pub least : emptySize (o .filtering) ≤ roomOf (length (r .out))
-  pub rooms : Rooms (roomOf (length (r .out))) r
-
-pub began : (o : Options) (r : Runs) → startOf o r ≡ pass tt → Began o r
-unfolding startOf roomOf
-began o r e =
-    asking 1 _ _ e λ f e.
-    asking 2 _ _ e λ x e.
-    asking 2 _ _ e λ y e.
-    asking 2 _ _ e λ z e.
-    let n = min tableLimit (length (r .out)) in
-    let a = leb-true (emptySize (o .filtering)) (length (r .out)) (is-true _ x) in
-    let u = both (leb n (length (r .index))) _ (is-true _ y) in
-    let v = both (leb (n / 4) (length (r .restarts))) _ (is-true _ z) in
-    let w = both (leb (n / 4) (length (r .offsets))) _ (is-true _ (ask-pass 2 _ e)) in
-    record {
-      fits = is-true _ f;
-      least = omega (arith, a, empty-most (o .filtering));
-      rooms =
-          record {
-            limit = omega arith;
-            out = omega arith;
-            index = leb-true _ _ (u .0);
-            filters = leb-true _ _ (u .1);
-            restarts = leb-true _ _ (v .0);
-            indexRestarts = leb-true _ _ (v .1);
-            offsets = leb-true _ _ (w .0);
-            hashes = leb-true _ _ (w .1);
-          };
-    }
 
 -- ---- a state that counts a table within the room is sane and small
 
@@ -131,18 +94,6 @@ module _ {o : Options} {b : Building} {s : Builder} (h : Counted o b s) (f : opt
         le-leb (s .pending .len) 1032 (k .0),
         le-leb (s .indexed .len) 1032 (k .1),
       )
-
--- ---- additions that were accepted, and one more
-
-pub took : (o : Options) (room : ℕ) (b : Building) (a : Addition) (c : Building) → accept o room b a ≡ pass c → add o b a ≡ c
-unfolding accept
-took o room b a c e = asking 3 _ _ e λ f e. asking 4 _ _ e λ u e. asking 5 _ _ e λ t e. pass-same e
-
-pub accept-more : (o : Options) (room : ℕ) (b : Building) (more : List Addition) (a : Addition) (c d : Building) → acceptAll o room b more ≡ pass c → accept o room c a ≡ pass d
-    → acceptAll o room b (more ++ (a ∷ [])) ≡ pass d
-unfolding acceptAll _>>=_
-accept-more o room b [] a c d e f = let q : b ≡ c = pass-same e in rw (q, f)
-accept-more o room b (x ∷ more) a c d e f = passing (accept o room b x) _ e λ k t e. rw t (accept-more o room k more a c d e f)
 
 pub addition-short : (a : Addition) → additionFits a ≡ true → (length (keyOf a) ≤ 1032) × (length (a .value) ≤ 32768)
 unfolding additionFits keyOf

@@ -176,6 +176,7 @@ pub record Ready (s : Builder) (l : Lengths) (k v : ℕ) : Type 0 where
 pub record DecidedIs (s : Builder) (l : Lengths) (key : List ℕ) (value : ℕ) (p : Plan) : Type 0 where
   pub kind : (p .answer ≡ 0) ⊎ ((p .answer ≡ 4) ⊎ (p .answer ≡ 5))
   pub answer : Whole (nextOf s key value) → p .answer ≡ decideOf s l key value
+  pub cut : p .answer ≡ 0 → p .cut ≡ cutOf s
   pub mid : p .answer ≡ 0 → p .mid ≡ midOf s key
   pub next : p .answer ≡ 0 → p .next ≡ nextOf s key value
   pub small : p .answer ≡ 0 → Small s

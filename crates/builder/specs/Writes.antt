@@ -1,9 +1,8 @@
 -- What the builder's private functions write into the runs.
-use Prim.Native.Nat.{ℕ, zero, suc, _+_, _/_, _≤_, _^_}
+use Prim.Native.Nat.{ℕ, _+_, _/_, _≤_, _^_}
 use mathlib.Core.Path.{_≡_}
-use mathlib.Core.Logic.{_⊎_}
 use mathlib.Core.List.{List, [], _∷_, _++_}
-use mathlib.Core.Bool.{true, false}
+use mathlib.Core.Bool.{Bool, true, false}
 use lib.ListN.{length, take}
 use Rattle.codec.specs.Bytes.{part}
 use Rattle.codec.specs.Checksum.{trailer}
@@ -21,14 +20,10 @@ use Rattle.filters.specs.Filter.{hash}
 use Rattle.filters.specs.FilterBlock.{filterBlockOf}
 use Rattle.filter_block.specs.Make.{groupsUpTo, MadeFilters}
 use Rattle.table.specs.Build.{framed, metaName, footerBytes}
-use Rattle.table.specs.Runs.{Runs, overlay}
-use Rattle.builder.specs.declared.table_builder.Answer.{Answer}
-use Rattle.builder.specs.declared.table_builder.Answer.the-variants as AnswerCase
-use Rattle.builder.specs.declared.table_builder.Lengths.{Lengths}
+use Rattle.table.specs.Runs.{overlay}
 use Rattle.builder.specs.declared.table_builder.Builder.{Builder}
-use Rattle.builder.specs.declared.table_builder.Added as AddedStruct
 use Rattle.builder.specs.declared.table_builder.FilterSizes.{FilterSizes}
-use Rattle.builder.specs.Steps.{lastOf, openSize, endsAt, cutOf, sepOf, midOf, nextOf, decideOf, Whole}
+use Rattle.builder.specs.Steps.{openSize, endsAt}
 
 -- the restarts behind the entries of a block at a place of out
 unfoldable pub tailedOut : List ℕ → ℕ → BlockBuilder → List ℕ → List ℕ
@@ -39,20 +34,26 @@ unfoldable pub sealedOut : List ℕ → ℕ → BlockBuilder → List ℕ → Li
 sealedOut out at b rs =
     put (tailedOut out at b rs) (at + countSize (countIn b)) (trailer (part (tailedOut out at b rs) at (countSize (countIn b))))
 
--- the open block written, indexed under a key, and filters made up to where it ends
-pub record ClosedRuns (s : Builder) (key : List ℕ) (r r′ : Runs) : Type 0 where
-  pub out : r′ .out ≡ sealedOut (r .out) (s .written) (s .pending) (r .restarts)
-  pub added : Added
-  pub index : AddedIs (s .indexed) 0 (r .index) (r′ .index) (r .indexRestarts) (r′ .indexRestarts) key (handleBytes (record { offset = s .written; size = openSize s })) added
-  pub made : Made
-  pub filters : MadeFilters (choiceOf (s .options .filter)) (groupsUpTo (s .made) (endsAt s / 2048) (take (s .waiting) (r .hashes))) (s .filtered) (s .made) made (r .filters) (r′ .filters) (r .offsets) (r′ .offsets)
-  pub restarts : r′ .restarts ≡ r .restarts
-  pub hashes : r′ .hashes ≡ r .hashes
+-- ---- the open block closed, or not
 
--- the same before a key, if the open block is over the block size
-pub record CutRuns (s : Builder) (key : List ℕ) (r r′ : Runs) : Type 0 where
-  pub cut : cutOf s ≡ true → ClosedRuns s (sepOf s key) r r′
-  pub kept : cutOf s ≡ false → r′ ≡ r
+-- written
+pub record ClosedOut (closing : Bool) (s : Builder) (out out′ restarts : List ℕ) : Type 0 where
+  pub done : closing ≡ true → out′ ≡ sealedOut out (s .written) (s .pending) restarts
+  pub kept : closing ≡ false → out′ ≡ out
+
+-- indexed under a key
+pub record ClosedIndex (closing : Bool) (s : Builder) (key index index′ restarts restarts′ : List ℕ) : Type 0 where
+  pub added : Added
+  pub done : closing ≡ true → AddedIs (s .indexed) 0 index index′ restarts restarts′ key (handleBytes (record { offset = s .written; size = openSize s })) added
+  pub kept : closing ≡ false → (index′ ≡ index) × (restarts′ ≡ restarts)
+
+-- filters made up to where it ends
+pub record ClosedFilters (closing : Bool) (s : Builder) (filters filters′ offsets offsets′ hashes : List ℕ) : Type 0 where
+  pub made : Made
+  pub done : closing ≡ true → MadeFilters (choiceOf (s .options .filter)) (groupsUpTo (s .made) (endsAt s / 2048) (take (s .waiting) hashes)) (s .filtered) (s .made) made filters filters′ offsets offsets′
+  pub kept : closing ≡ false → (filters′ ≡ filters) × (offsets′ ≡ offsets)
+
+-- ---- an entry
 
 -- an entry written into the open block, and its word's hash behind those that wait
 pub record EnteredRuns (s : Builder) (key word value out out′ restarts restarts′ hashes hashes′ : List ℕ) : Type 0 where
@@ -60,37 +61,7 @@ pub record EnteredRuns (s : Builder) (key word value out out′ restarts restart
   pub entry : AddedIs (s .pending) (s .written) out out′ restarts restarts′ key value added
   pub hash : hashes′ ≡ put hashes (s .waiting) (hash word ∷ [])
 
--- an addition written into the runs, by way of a cut
-pub record PutRuns (s : Builder) (key word value : List ℕ) (r r′ : Runs) : Type 0 where
-  pub mid : Runs
-  pub cut : CutRuns s key r mid
-  pub entered : EnteredRuns (midOf s key) key word value (mid .out) (r′ .out) (mid .restarts) (r′ .restarts) (mid .hashes) (r′ .hashes)
-  pub index : r′ .index ≡ mid .index
-  pub filters : r′ .filters ≡ mid .filters
-  pub indexRestarts : r′ .indexRestarts ≡ mid .indexRestarts
-  pub offsets : r′ .offsets ≡ mid .offsets
-
--- the answer of a number: 0, or a refusal's
-unfoldable pub numbered : ℕ → Answer
-numbered zero = AnswerCase.Ok
-numbered (suc n) = AnswerCase.Refused (suc n)
-
--- an addition within the limits, to a sane state, answers x and leaves the runs so
-pub record PutIs (s : Builder) (l : Lengths) (key word value : List ℕ) (r r′ : Runs) (x : AddedStruct.Added) : Type 0 where
-  pub number : ℕ
-  pub kind : (number ≡ 0) ⊎ ((number ≡ 4) ⊎ (number ≡ 5))
-  pub answer : x .answer ≡ numbered number
-  pub decided : Whole (nextOf s key (length value)) → number ≡ decideOf s l key (length value)
-  pub kept : (number ≡ 0 → ⊥) → (x .state ≡ s) × (r′ ≡ r)
-  pub state : number ≡ 0 → x .state ≡ nextOf s key (length value)
-  pub wrote : number ≡ 0 → PutRuns s key word value r r′
-
 -- ---- the end
-
--- a pending block written, and indexed under its last key
-pub record LastRuns (s : Builder) (r r′ : Runs) : Type 0 where
-  pub some : (s .pending .restarts ≡ 0 → ⊥) → ClosedRuns s (lastOf s) r r′
-  pub none : s .pending .restarts ≡ 0 → r′ ≡ r
 
 -- one filter more if hashes still wait
 pub record LastFilters (s : Builder) (f f′ q q′ hashes : List ℕ) : Type 0 where
@@ -136,14 +107,3 @@ pub record EndPut (s : Builder) (f : FilterSizes) (filters offsets index restart
       let u = t ++ framed mb in
       let all = u ++ framed ib ++ footerBytes (record { offset = length t; size = length mb }) (record { offset = length u; size = length ib }) in
       length all ≤ length r → out′ ≡ overlay all r)
-
--- all that is left of a table, written
-pub record EndRuns (s last : Builder) (f : FilterSizes) (r r′ : Runs) : Type 0 where
-  pub mid : Runs
-  pub closed : LastRuns s r mid
-  pub filters : LastFilters last (mid .filters) (r′ .filters) (mid .offsets) (r′ .offsets) (mid .hashes)
-  pub out : EndPut last f (r′ .filters) (r′ .offsets) (mid .index) (mid .indexRestarts) (mid .out) (r′ .out)
-  pub index : r′ .index ≡ mid .index
-  pub indexRestarts : r′ .indexRestarts ≡ mid .indexRestarts
-  pub restarts : r′ .restarts ≡ r .restarts
-  pub hashes : r′ .hashes ≡ r .hashes

@@ -4,7 +4,7 @@ ghost use mathlib.Core.Path.{_≡_};
 ghost use mathlib.Core.Bool.{true, _&&_};
 ghost use mathlib.Core.List.{[], _∷_};
 ghost use Prim.Native.Nat.{_+_, _^_, _≤_, _<_};
-ghost use lib.Dec.{eqb, leb};
+ghost use lib.Dec.{leb};
 ghost use lib.ListN.{length, take};
 ghost use Rattle.codec.specs.Put.{put};
 ghost use Rattle.codec.specs.Varint.{handleBytes};
@@ -24,7 +24,7 @@ ghost use Rattle.table.specs.Counts.{finishedSize};
 ghost use Rattle.builder.specs.State.{optionsOf, countsIn, seven, runsFit, sameLengths, sizesFit, sane, begun, noBuilder};
 ghost use Rattle.builder.specs.Answers.{StartedIs, AddedIs, FinishedIs};
 ghost use Rattle.builder.specs.Steps.{small, Small, filterCountIn, closedState, lastOf, Roomy, enteredState, lastState, metaLen, Whole, cutOf, midOf, aboveLast, fitsOf, earlyOf, Ready, DecidedIs, EndingIs};
-ghost use Rattle.builder.specs.Writes.{sealedOut, ClosedRuns, CutRuns, EnteredRuns, PutIs, LastRuns, LastFilters, Framed, IndexPut, EndFits, EndPut, EndRuns};
+ghost use Rattle.builder.specs.Writes.{sealedOut, ClosedOut, ClosedIndex, ClosedFilters, EnteredRuns, LastFilters, Framed, IndexPut, EndFits, EndPut};
 use block_builder::block_builder::BlockBuilder;
 use codec::put::Written;
 use codec::varint::varint_len;
@@ -528,11 +528,11 @@ fn put_separator(sep: &mut [u8], last: &[u8], len: usize, key: &[u8]) -> usize
 }
 
 // The state after a cut before a key, if there is one.
-fn cut_before(s: Builder, key: &[u8]) -> Builder
-    requires { ⌜ (Small s) × (s .pending .len ≤ 1032) ⌝ }
+fn cut_before(s: Builder, cut: bool, key: &[u8]) -> Builder
+    requires { ⌜ (Small s) × ((s .pending .len ≤ 1032) × (cut ≡ cutOf s)) ⌝ }
     ensures { λ r. ⌜ r ≡ midOf s (now (key .entry)) ⌝ }
 {
-    if !is_cut(s) {
+    if !cut {
         return s;
     }
     let pending = s.pending;
@@ -554,9 +554,11 @@ fn has_room(s: Builder, l: Lengths) -> bool
     finished_size(s) <= room(l.out)
 }
 
-// What is decided of an addition: 0 or the refusal's number, the state after a cut, and the state with the entry.
+// What is decided of an addition: 0 or the refusal's number, whether there is a cut, the state after it, and the state with the
+// entry.
 struct Plan {
     answer: u32,
+    cut: bool,
     mid: Builder,
     next: Builder,
 }
@@ -569,6 +571,7 @@ fn decide(s: Builder, l: Lengths, key: &[u8], value_len: usize) -> Plan
     if !is_small(s) {
         return Plan {
             answer: 5,
+            cut: false,
             mid: s,
             next: s,
         };
@@ -576,21 +579,25 @@ fn decide(s: Builder, l: Lengths, key: &[u8], value_len: usize) -> Plan
     if !is_above(s, key) {
         return Plan {
             answer: 4,
+            cut: false,
             mid: s,
             next: s,
         };
     }
-    let mid = cut_before(s, key);
+    let cut = is_cut(s);
+    let mid = cut_before(s, cut, key);
     let next = entered(mid, key, value_len);
     if !has_room(next, l) {
         return Plan {
             answer: 5,
+            cut: false,
             mid: s,
             next: s,
         };
     }
     Plan {
         answer: 0,
+        cut: cut,
         mid: mid,
         next: next,
     }
@@ -640,28 +647,52 @@ fn filter_blocks(
     filter_block::filter_block::make_filters(choice, &hashes[..k], n, filters, bytes, offsets, made)
 }
 
-// Writes the open block, indexes it under a key, and makes filters up to where it ends.
-fn close(
-    s: Builder,
-    key: &[u8],
-    out: &mut [u8],
-    index: &mut [u8],
-    filters: &mut [u8],
-    restarts: &[u32],
-    index_restarts: &mut [u32],
-    offsets: &mut [u32],
-    hashes: &[u32],
-)
+// Of an open block that is closed: its restarts and its trailer.
+fn close_out(closing: bool, s: Builder, out: &mut [u8], restarts: &[u32])
     requires { ⌜ Small s ⌝ }
-    ensures { λ _. ⌜ ClosedRuns s (now (key .entry)) (seven (now (out .entry)) (now (index .entry)) (now (filters .entry)) (now (restarts .entry)) (now («index_restarts» .entry)) (now (offsets .entry)) (now (hashes .entry))) (seven (now (out .exit)) (now (index .exit)) (now (filters .exit)) (now (restarts .entry)) (now («index_restarts» .exit)) (now (offsets .exit)) (now (hashes .entry))) ⌝ }
+    ensures { λ _. ⌜ ClosedOut closing s (now (out .entry)) (now (out .exit)) (now (restarts .entry)) ⌝ }
 {
+    if !closing {
+        return;
+    }
     let pending = s.pending;
     let size = pending.size_estimate();
-    let at = s.written;
-    let end = at + size + 5;
-    seal_block(out, at, pending, restarts, size);
+    seal_block(out, s.written, pending, restarts, size);
+}
+
+// Of an open block that is closed: its index entry, under the first len bytes of last.
+fn close_index(
+    closing: bool,
+    s: Builder,
+    last: &[u8],
+    len: usize,
+    index: &mut [u8],
+    restarts: &mut [u32],
+)
+    requires { ⌜ Small s ⌝ }
+    ensures { λ _. ⌜ ClosedIndex closing s (take len (now (last .entry))) (now (index .entry)) (now (index .exit)) (now (restarts .entry)) (now (restarts .exit)) ⌝ }
+{
+    if !closing {
+        return;
+    }
+    let pending = s.pending;
+    let size = pending.size_estimate();
     let indexed = s.indexed;
-    index_block(indexed, index, index_restarts, key, at, size);
+    let n = codec::limits::least(len, last.len());
+    index_block(indexed, index, restarts, &last[..n], s.written, size);
+}
+
+// Of an open block that is closed: the filters up to where it ends.
+fn close_filters(closing: bool, s: Builder, filters: &mut [u8], offsets: &mut [u32], hashes: &[u32])
+    requires { ⌜ Small s ⌝ }
+    ensures { λ _. ⌜ ClosedFilters closing s (now (filters .entry)) (now (filters .exit)) (now (offsets .entry)) (now (offsets .exit)) (now (hashes .entry)) ⌝ }
+{
+    if !closing {
+        return;
+    }
+    let pending = s.pending;
+    let size = pending.size_estimate();
+    let end = s.written + size + 5;
     let options = s.options;
     let filter = options.filter;
     filter_blocks(
@@ -673,40 +704,6 @@ fn close(
         s.filtered,
         offsets,
         s.made,
-    );
-}
-
-// The same before a key, if the open block is over the block size.
-fn close_before(
-    s: Builder,
-    key: &[u8],
-    out: &mut [u8],
-    index: &mut [u8],
-    filters: &mut [u8],
-    restarts: &[u32],
-    index_restarts: &mut [u32],
-    offsets: &mut [u32],
-    hashes: &[u32],
-)
-    requires { ⌜ (Small s) × (s .pending .len ≤ 1032) ⌝ }
-    ensures { λ _. ⌜ CutRuns s (now (key .entry)) (seven (now (out .entry)) (now (index .entry)) (now (filters .entry)) (now (restarts .entry)) (now («index_restarts» .entry)) (now (offsets .entry)) (now (hashes .entry))) (seven (now (out .exit)) (now (index .exit)) (now (filters .exit)) (now (restarts .entry)) (now («index_restarts» .exit)) (now (offsets .exit)) (now (hashes .entry))) ⌝ }
-{
-    if !is_cut(s) {
-        return;
-    }
-    let pending = s.pending;
-    let mut sep = [0u8; 1032];
-    let n = put_separator(&mut sep, &pending.last, pending.len, key);
-    close(
-        s,
-        &sep[..n],
-        out,
-        index,
-        filters,
-        restarts,
-        index_restarts,
-        offsets,
-        hashes,
     );
 }
 
@@ -745,96 +742,6 @@ fn put_key(key: &mut [u8], word: &[u8], edition: u64, kind: u8) -> usize
         Written::NoRoom => 0,
         Written::At(n) => n,
     }
-}
-
-// Decides of an addition within the limits, and then writes it.
-fn put_addition(
-    s: Builder,
-    l: Lengths,
-    key: &[u8],
-    word: &[u8],
-    value: &[u8],
-    out: &mut [u8],
-    index: &mut [u8],
-    filters: &mut [u8],
-    restarts: &mut [u32],
-    index_restarts: &mut [u32],
-    offsets: &mut [u32],
-    hashes: &mut [u32],
-) -> Added
-    requires { ⌜ Ready s l (length (now key)) (length (now value)) ⌝ }
-    ensures { λ r. ⌜ PutIs s l (now (key .entry)) (now (word .entry)) (now (value .entry)) (seven (now (out .entry)) (now (index .entry)) (now (filters .entry)) (now (restarts .entry)) (now («index_restarts» .entry)) (now (offsets .entry)) (now (hashes .entry))) (seven (now (out .exit)) (now (index .exit)) (now (filters .exit)) (now (restarts .exit)) (now («index_restarts» .exit)) (now (offsets .exit)) (now (hashes .exit))) r ⌝ }
-{
-    let p = decide(s, l, key, value.len());
-    let number = p.answer;
-    if number != 0 {
-        return Added {
-            answer: Answer::Refused(number),
-            state: s,
-        };
-    }
-    close_before(
-        s,
-        key,
-        out,
-        index,
-        filters,
-        restarts,
-        index_restarts,
-        offsets,
-        hashes,
-    );
-    let mid = p.mid;
-    write_entry(mid, key, word, value, out, restarts, hashes);
-    let next = p.next;
-    Added {
-        answer: Answer::Ok,
-        state: next,
-    }
-}
-
-// The first len bytes of last go to the front of key; how many they are.
-fn put_last(key: &mut [u8], last: &[u8], len: usize) -> usize
-    requires { ⌜ (length (now key) ≡ 1032) × ((len ≤ length (now last)) × (len ≤ 1032)) ⌝ }
-    ensures { λ r. ⌜ (r ≤ 1032) × ((length (now (key .exit)) ≡ 1032) × (take r (now (key .exit)) ≡ take len (now (last .entry)))) ⌝ }
-{
-    match codec::put::put_bytes(key, 0, &last[..len]) {
-        Written::NoRoom => 0,
-        Written::At(n) => n,
-    }
-}
-
-// At the end: a pending block is written, and indexed under its last key.
-fn close_last(
-    s: Builder,
-    out: &mut [u8],
-    index: &mut [u8],
-    filters: &mut [u8],
-    restarts: &[u32],
-    index_restarts: &mut [u32],
-    offsets: &mut [u32],
-    hashes: &[u32],
-)
-    requires { ⌜ (Small s) × (s .pending .len ≤ 1032) ⌝ }
-    ensures { λ _. ⌜ LastRuns s (seven (now (out .entry)) (now (index .entry)) (now (filters .entry)) (now (restarts .entry)) (now («index_restarts» .entry)) (now (offsets .entry)) (now (hashes .entry))) (seven (now (out .exit)) (now (index .exit)) (now (filters .exit)) (now (restarts .entry)) (now («index_restarts» .exit)) (now (offsets .exit)) (now (hashes .entry))) ⌝ }
-{
-    let pending = s.pending;
-    if pending.restarts == 0 {
-        return;
-    }
-    let mut key = [0u8; 1032];
-    let n = put_last(&mut key, &pending.last, pending.len);
-    close(
-        s,
-        &key[..n],
-        out,
-        index,
-        filters,
-        restarts,
-        index_restarts,
-        offsets,
-        hashes,
-    );
 }
 
 // One filter more if hashes still wait.
@@ -1033,36 +940,6 @@ fn decide_end(s: Builder, l: Lengths) -> Ending
     }
 }
 
-// Writes all that is left of a table.
-fn write_last(
-    s: Builder,
-    last: Builder,
-    f: FilterSizes,
-    out: &mut [u8],
-    index: &mut [u8],
-    filters: &mut [u8],
-    restarts: &[u32],
-    index_restarts: &mut [u32],
-    offsets: &mut [u32],
-    hashes: &[u32],
-)
-    requires { ⌜ (Small s) × ((s .pending .len ≤ 1032) × (EndFits last f (length (now filters)) (length (now offsets)) (length (now index)) × (last .made < 2 ^ 63))) ⌝ }
-    ensures { λ _. ⌜ EndRuns s last f (seven (now (out .entry)) (now (index .entry)) (now (filters .entry)) (now (restarts .entry)) (now («index_restarts» .entry)) (now (offsets .entry)) (now (hashes .entry))) (seven (now (out .exit)) (now (index .exit)) (now (filters .exit)) (now (restarts .entry)) (now («index_restarts» .exit)) (now (offsets .exit)) (now (hashes .entry))) ⌝ }
-{
-    close_last(
-        s,
-        out,
-        index,
-        filters,
-        restarts,
-        index_restarts,
-        offsets,
-        hashes,
-    );
-    filter_last(last, filters, offsets, hashes);
-    write_end(out, last, f, filters, offsets, index, index_restarts);
-}
-
 impl Builder {
     // Adds an entry: a user key, a sequence and a kind, and a value.
     pub fn add(
@@ -1100,20 +977,26 @@ impl Builder {
         }
         let mut key = [0u8; 1032];
         let n = put_key(&mut key, word, edition, kind);
-        put_addition(
-            self,
-            lengths,
-            &key[..n],
-            word,
-            value,
-            out,
-            index,
-            filters,
-            restarts,
-            index_restarts,
-            offsets,
-            hashes,
-        )
+        let p = decide(self, lengths, &key[..n], value.len());
+        let answer = p.answer;
+        if answer != 0 {
+            return Added {
+                answer: Answer::Refused(answer),
+                state: self,
+            };
+        }
+        let cut = p.cut;
+        let mid = p.mid;
+        let last = mid.indexed;
+        close_out(cut, self, out, restarts);
+        close_index(cut, self, &last.last, last.len, index, index_restarts);
+        close_filters(cut, self, filters, offsets, hashes);
+        write_entry(mid, &key[..n], word, value, out, restarts, hashes);
+        let next = p.next;
+        Added {
+            answer: Answer::Ok,
+            state: next,
+        }
     }
 
     // Writes all that is left of the table: its last block, filter block, metaindex, index and footer.
@@ -1155,18 +1038,14 @@ impl Builder {
         }
         let last = p.last;
         let sizes = p.sizes;
-        write_last(
-            self,
-            last,
-            sizes,
-            out,
-            index,
-            filters,
-            restarts,
-            index_restarts,
-            offsets,
-            hashes,
-        );
+        let pending = self.pending;
+        let closing = pending.restarts != 0;
+        let under = last.indexed;
+        close_out(closing, self, out, restarts);
+        close_index(closing, self, &under.last, under.len, index, index_restarts);
+        close_filters(closing, self, filters, offsets, hashes);
+        filter_last(last, filters, offsets, hashes);
+        write_end(out, last, sizes, filters, offsets, index, index_restarts);
         let mut over = self;
         over.finished = true;
         Finished {

@@ -63,6 +63,11 @@ module _ {A : Type 0} {P : A → Type 0} where
   all-imp f All.nil = All.nil
   all-imp f (All.cons p ps) = All.cons (f _ p) (all-imp f ps)
 
+-- an element of a mapped list is the map of one
+pub mem-unmap : {A B : Type 0} (f : A → B) (xs : List A) {b : B} → List·Memᴰ b (map f xs) → (a : A) × List·Memᴰ a xs × (b ≡ f a)
+mem-unmap f (x ∷ xs) (List·Memᴰ·head e) = (x, List·Memᴰ·head refl, e)
+mem-unmap f (x ∷ xs) (List·Memᴰ·tail m) = let r = mem-unmap f xs m in (r .0, List·Memᴰ·tail (r .1), r .2)
+
 pub all-map : {A B : Type 0} {P : B → Type 0} (f : A → B) {xs : List A} → All (λ x. P (f x)) xs → All P (map f xs)
 all-map f All.nil = All.nil
 all-map f (All.cons p ps) = All.cons p (all-map f ps)

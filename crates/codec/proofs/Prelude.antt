@@ -20,6 +20,10 @@ pub decide : (t : Bool) → T t ⊎ T (not t)
 decide true = inl tt
 decide false = inr tt
 
+-- 0 is not 1: what comes of two constructors that would be one
+pub apart {ℓ} : {A : Type ℓ} → _≡_ {A = ℕ} 0 1 → A
+apart e = absurd (omega arith)
+
 -- ---- `T` and equations
 
 pub is-true : (t : Bool) → T t → t ≡ true
@@ -33,6 +37,9 @@ true-is e = rw e tt
 
 pub false-is : {t : Bool} → t ≡ false → T (not t)
 false-is e = rw e tt
+
+pub not-both : (t : Bool) → T t → T (not t) → ⊥
+not-both true h n = n
 
 -- ---- tests joined
 

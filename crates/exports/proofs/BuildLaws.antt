@@ -3,6 +3,7 @@ use Prim.Native.Nat.{ℕ}
 use mathlib.Core.Path.{_≡_, refl, ap, subst}
 use mathlib.Core.Bool.{Bool, true, false, cond, not}
 use lib.Dec.{eqb}
+use Rattle.codec.specs.Shown.{Shown}
 use Rattle.filter_block.specs.declared.filter.Filter.{Filter}
 use Rattle.filter_block.specs.declared.filter.Filter.the-variants as FilterCase
 use Rattle.table.specs.Options.{Addition}
@@ -37,14 +38,18 @@ pub with-filter : {size interval : ℕ} {f g : Filter} → f ≡ g
     → options size interval f ≡ options size interval g
 with-filter {size} {interval} e = ap (options size interval) e
 
+-- what holds of one thing, and is shown, holds of one that is equal
+shown-of : {S A R : Type 0} {show : A → R} (so : S → A → Type 0) {s z : S} {x : A} {y : R} → s ≡ z → so s x → y ≡ show x → Shown show (so z) y
+shown-of so {x = x} e is shown = record { answer = x; shown = shown; is = subst (λ s. so s x) e is }
+
 -- start of options that are equal
 pub starts : {o p : Options} {r r′ : Runs} {x : Started} {y : SalevoniBuilt} → o ≡ p → StartedIs o r r′ x → y ≡ startedOut x → StartsOut p r r′ y
-starts {o} {p} {r} {r′} {x} {y} e is shown = record { answer = x; shown = shown; is = subst (λ (o : Options). StartedIs o r r′ x) e is }
+starts {r = r} {r′ = r′} = shown-of (λ o x. StartedIs o r r′ x)
 
 -- add to the builder of a state
-pub adds : {s : SalevoniState} {b : Builder} {r r′ : Runs} {a : Addition} {x : Added} {y : SalevoniBuilt} → b ≡ builderIn s → AddedIs b r r′ a x → y ≡ addedOut s x → AddsOut s r r′ a y
-adds {s} {b} {r} {r′} {a} {x} {y} e is shown = record { answer = x; shown = shown; is = subst (λ (b : Builder). AddedIs b r r′ a x) e is }
+pub adds : (s : SalevoniState) {b : Builder} {r r′ : Runs} {a : Addition} {x : Added} {y : SalevoniBuilt} → b ≡ builderIn s → AddedIs b r r′ a x → y ≡ addedOut s x → AddsOut s r r′ a y
+adds s {r = r} {r′ = r′} {a = a} = shown-of (λ b x. AddedIs b r r′ a x)
 
 -- finish of the builder of a state
-pub finishes : {s : SalevoniState} {b : Builder} {r r′ : Runs} {x : Finished} {y : SalevoniBuilt} → b ≡ builderIn s → FinishedIs b r r′ x → y ≡ finishedOut s x → FinishesOut s r r′ y
-finishes {s} {b} {r} {r′} {x} {y} e is shown = record { answer = x; shown = shown; is = subst (λ (b : Builder). FinishedIs b r r′ x) e is }
+pub finishes : (s : SalevoniState) {b : Builder} {r r′ : Runs} {x : Finished} {y : SalevoniBuilt} → b ≡ builderIn s → FinishedIs b r r′ x → y ≡ finishedOut s x → FinishesOut s r r′ y
+finishes s {r = r} {r′ = r′} = shown-of (λ b x. FinishedIs b r r′ x)

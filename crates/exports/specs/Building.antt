@@ -3,6 +3,7 @@ use Prim.Native.Nat.{ℕ}
 use mathlib.Core.Path.{_≡_}
 use mathlib.Core.Bool.{cond, not}
 use lib.Dec.{eqb}
+use Rattle.codec.specs.Shown.{Shown}
 use Rattle.filter_block.specs.declared.filter.Filter as FilterEnum
 use Rattle.filter_block.specs.declared.filter.Filter.the-variants as FilterCase
 use Rattle.table.specs.Options.{Addition}
@@ -98,19 +99,13 @@ abbrev pub finishedOut : SalevoniState → Finished → SalevoniBuilt
 finishedOut before x = ended before (stateOut (x .state)) (x .answer)
 
 -- start answers x and turns the runs r into r′
-pub record StartsOut (o : Options) (r r′ : Runs) (x : SalevoniBuilt) : Type 0 where
-  pub answer : Started
-  pub shown : x ≡ startedOut answer
-  pub is : StartedIs o r r′ answer
+abbrev pub StartsOut : Options → Runs → Runs → SalevoniBuilt → Type 0
+StartsOut o r r′ x = Shown startedOut (λ y. StartedIs o r r′ y) x
 
 -- add of a state likewise
-pub record AddsOut (s : SalevoniState) (r r′ : Runs) (a : Addition) (x : SalevoniBuilt) : Type 0 where
-  pub answer : Added
-  pub shown : x ≡ addedOut s answer
-  pub is : AddedIs (builderIn s) r r′ a answer
+abbrev pub AddsOut : SalevoniState → Runs → Runs → Addition → SalevoniBuilt → Type 0
+AddsOut s r r′ a x = Shown (addedOut s) (λ y. AddedIs (builderIn s) r r′ a y) x
 
 -- finish of a state likewise
-pub record FinishesOut (s : SalevoniState) (r r′ : Runs) (x : SalevoniBuilt) : Type 0 where
-  pub answer : Finished
-  pub shown : x ≡ finishedOut s answer
-  pub is : FinishedIs (builderIn s) r r′ answer
+abbrev pub FinishesOut : SalevoniState → Runs → Runs → SalevoniBuilt → Type 0
+FinishesOut s r r′ x = Shown (finishedOut s) (λ y. FinishedIs (builderIn s) r r′ y) x

@@ -1,7 +1,7 @@
 -- The answers of the full check and the reads, in numbers.
 use Prim.Native.Nat.{ℕ}
-use mathlib.Core.Path.{_≡_}
 use mathlib.Core.List.{List}
+use Rattle.codec.specs.Shown.{Shown}
 use Rattle.keys.specs.Order.{Point}
 use Rattle.table.specs.Checked.{Checked, pass, refuse}
 use Rattle.full_check.specs.declared.check.Verdict.{Verdict}
@@ -54,19 +54,13 @@ lookedOut FoundCase.Absent = noEntry 100
 lookedOut (FoundCase.Refused n) = noEntry n
 
 -- a seek answers r and turns the key buffer k into k′
-pub record SeeksOut (t : List ℕ) (p : Point) (k : List ℕ) (r : SalevoniEntry) (k′ : List ℕ) : Type 0 where
-  pub answer : Sought
-  pub shown : r ≡ soughtOut answer
-  pub is : Seeks t p k answer k′
+abbrev pub SeeksOut : List ℕ → Point → List ℕ → SalevoniEntry → List ℕ → Type 0
+SeeksOut t p k r k′ = Shown soughtOut (λ x. Seeks t p k x k′) r
 
 -- a lookup likewise
-pub record LooksOut (t : List ℕ) (p : Point) (k : List ℕ) (r : SalevoniEntry) (k′ : List ℕ) : Type 0 where
-  pub answer : FoundEnum.Found
-  pub shown : r ≡ lookedOut answer
-  pub is : Looks t p k answer k′
+abbrev pub LooksOut : List ℕ → Point → List ℕ → SalevoniEntry → List ℕ → Type 0
+LooksOut t p k r k′ = Shown lookedOut (λ x. Looks t p k x k′) r
 
 -- a step from a place likewise
-pub record StepsOut (t : List ℕ) (ix at : ℕ) (k : List ℕ) (r : SalevoniEntry) (k′ : List ℕ) : Type 0 where
-  pub answer : Sought
-  pub shown : r ≡ soughtOut answer
-  pub is : Steps t ix at k answer k′
+abbrev pub StepsOut : List ℕ → ℕ → ℕ → List ℕ → SalevoniEntry → List ℕ → Type 0
+StepsOut t ix at k r k′ = Shown soughtOut (λ x. Steps t ix at k x k′) r

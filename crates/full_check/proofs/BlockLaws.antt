@@ -20,10 +20,10 @@ use Rattle.blocks.proofs.FormedLaws.{formed-readable}
 use Rattle.block_reader.proofs.LayoutLaws.{laid, no-block}
 use Rattle.block_reader.proofs.SeekLaws.{read-whole}
 use Rattle.table.specs.Checked.{Checked, pass, refuse, _>>=_, ask, orRefuse}
-use Rattle.table.specs.Table.{contents, sealed}
+use Rattle.table.specs.Table.{contents, sealed, lessOf, sortedIn, sortedAt}
 use Rattle.table.proofs.CheckedLaws.{passing, asking, orRefuse-pass, pass-same}
 use Rattle.full_check.specs.declared.check.Verdict.the-variants as VerdictCase
-use Rattle.full_check.specs.Steps.{endOf, lessOf, sortedIn, sortedAt, Judged}
+use Rattle.full_check.specs.Steps.{endOf, Judged}
 
 -- ---- where the entries end
 

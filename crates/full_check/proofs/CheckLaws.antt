@@ -11,7 +11,7 @@ use Rattle.codec.proofs.BytesLaws.{part-between}
 use Rattle.keys.specs.Order.{userOf, below}
 use Rattle.block_reader.specs.declared.block.Kind.the-variants as KindCase
 use Rattle.blocks.specs.Block.{Pair, Entry, lastKeyOf, pairsOf}
-use Rattle.blocks.specs.Formed.{all, rises}
+use Rattle.blocks.specs.Formed.{indexBlock, metaBlock, all, rises}
 use Rattle.block_reader.specs.Said.{kindOf}
 use Rattle.filters.specs.Filter.{hash}
 use Rattle.filters.specs.FilterBlock.{filterFormed, mayMatch}
@@ -19,11 +19,11 @@ use Rattle.table_block.specs.declared.footer.FooterRead.the-variants as FooterC
 use Rattle.table_block.specs.declared.table_block.FilterRead.the-variants as FilterCase
 use Rattle.table_block.specs.Answers.{footerAnswer, bloomAnswer}
 use Rattle.table.specs.Checked.{Checked, pass, refuse, _>>=_, ask}
-use Rattle.table.specs.Table.{endsBefore, placed, Footer, footer, contents, sealed, blockOf, metaindexOf, indexOf, bloomHandle, filterOf, mayHold, opened, Edge, firstFollows, handleOf, dataBlockOf, dataBlocksOf, fullCheck}
+use Rattle.table.specs.Table.{endsBefore, placed, Footer, footer, contents, sealed, blockOf, sortedAt, bloomHandle, filterOf, mayHold, opened, Edge, firstFollows, handleOf, dataBlockOf, dataBlocksOf, fullCheck}
 use Rattle.table_block.proofs.FooterLaws.{no-footer, a-footer}
 use Rattle.full_check.specs.declared.check.Verdict.the-variants as VerdictCase
 use Rattle.full_check.specs.Answers.{verdictOf}
-use Rattle.full_check.specs.Steps.{lessOf, sortedIn, sortedAt, ordered, filterBytes, lets, dataIn, dataAt, blocksAt, withFilter, afterFooter}
+use Rattle.full_check.specs.Steps.{ordered, filterBytes, lets, dataIn, dataAt, blocksAt, withFilter, afterFooter}
 use Rattle.full_check.proofs.DataLaws.{refused}
 
 -- ---- tests after tests
@@ -114,27 +114,19 @@ names-some (some h) {a} {b} e =
 
 -- ---- metaindex and index
 
-meta-is : (t : List ℕ) (h : Handle) → metaindexOf t h ≡ sortedAt (kindOf KindCase.Metaindex) t h
-unfolding metaindexOf blockOf sortedAt sortedIn lessOf kindOf
-meta-is t h = refl
-
-index-is : (t : List ℕ) (h : Handle) → indexOf t h ≡ sortedAt (kindOf KindCase.Index) t h
-unfolding indexOf blockOf sortedAt sortedIn lessOf kindOf
-index-is t h = refl
-
 module _ (t : List ℕ) (m i : Handle) where
   pub meta-refused : {n : ℕ} → sortedAt (kindOf KindCase.Metaindex) t m ≡ refuse n → afterFooter t m i ≡ refuse n
-  unfolding afterFooter _>>=_
-  meta-refused e = rw (meta-is t m, e)
+  unfolding afterFooter _>>=_ kindOf
+  meta-refused e = rw e
 
   module _ {ms : List Entry} (e : sortedAt (kindOf KindCase.Metaindex) t m ≡ pass ms) where
     pub index-refused : {n : ℕ} → sortedAt (kindOf KindCase.Index) t i ≡ refuse n → afterFooter t m i ≡ refuse n
-    unfolding afterFooter _>>=_
-    index-refused f = rw (meta-is t m, e, index-is t i, f)
+    unfolding afterFooter _>>=_ kindOf
+    index-refused f = rw (e, f)
 
     pub both-sorted : {es : List Entry} → sortedAt (kindOf KindCase.Index) t i ≡ pass es → afterFooter t m i ≡ withFilter t (bloomHandle (pairsOf ms)) (pairsOf es)
-    unfolding afterFooter _>>=_
-    both-sorted f = rw (meta-is t m, e, index-is t i, f)
+    unfolding afterFooter _>>=_ kindOf
+    both-sorted f = rw (e, f)
 
 -- ---- the footer
 
@@ -142,8 +134,8 @@ full-by : (t : List ℕ) → fullCheck t ≡ footer t >>= (λ ft. afterFooter t 
 unfolding fullCheck opened afterFooter withFilter _>>=_
 full-by t =
     then-then (footer t) _ _ ∙ then-same (footer t) (λ ft.
-    then-then (metaindexOf t (ft .metaindex)) _ _ ∙ then-same (metaindexOf t (ft .metaindex)) (λ ms.
-    then-then (indexOf t (ft .index)) _ _ ∙ then-same (indexOf t (ft .index)) (λ ixs.
+    then-then (sortedAt metaBlock t (ft .metaindex)) _ _ ∙ then-same (sortedAt metaBlock t (ft .metaindex)) (λ ms.
+    then-then (sortedAt indexBlock t (ft .index)) _ _ ∙ then-same (sortedAt indexBlock t (ft .index)) (λ ixs.
     then-then (filterOf t (bloomHandle (pairsOf ms))) _ _)))
 
 module _ (t : List ℕ) where

@@ -25,8 +25,8 @@ use Rattle.block_reader.proofs.EntryLaws.{Taken}
 use Rattle.block_reader.proofs.WalkLaws.{read-end, no-read, taken-first}
 use Rattle.filters.specs.Filter.{hash}
 use Rattle.filters.specs.FilterBlock.{mayMatch}
-use Rattle.table.specs.Table.{Edge, follows, firstFollows, handleOf}
-use Rattle.full_check.specs.Steps.{lessOf, after, risesFrom, edgeOf, ordered, lets}
+use Rattle.table.specs.Table.{Edge, follows, firstFollows, handleOf, lessOf}
+use Rattle.full_check.specs.Steps.{after, risesFrom, edgeOf, ordered, lets}
 
 -- ---- one key after another
 

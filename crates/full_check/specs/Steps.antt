@@ -6,14 +6,14 @@ use mathlib.Core.Bool.{Bool, true, false, _&&_, _||_, not}
 use mathlib.Core.Option.{Option, none, some}
 use lib.ListN.{take}
 use Rattle.codec.specs.Varint.{Handle}
-use Rattle.keys.specs.Order.{userOf, bytesBelow, below}
+use Rattle.keys.specs.Order.{userOf, below}
 use Rattle.blocks.specs.Block.{Pair, lastKeyOf, Entry, pairsOf}
 use Rattle.blocks.specs.Formed.{Kind, dataBlock, indexBlock, metaBlock, all, rises, wellFormed}
 use Rattle.block_reader.specs.Steps.{rowsOf, readFrom}
 use Rattle.filters.specs.Filter.{hash}
 use Rattle.filters.specs.FilterBlock.{mayMatch}
 use Rattle.table.specs.Checked.{Checked, pass, refuse, _>>=_, ask, orRefuse}
-use Rattle.table.specs.Table.{placed, contents, sealed, metaindexOf, indexOf, bloomHandle, filterOf, Edge, firstFollows, handleOf, dataBlocksOf}
+use Rattle.table.specs.Table.{placed, contents, sealed, lessOf, sortedAt, bloomHandle, filterOf, Edge, firstFollows, handleOf, dataBlocksOf}
 use Rattle.full_check.specs.declared.check.DataRead.{DataRead}
 use Rattle.full_check.specs.declared.check.DataRead.the-variants as DataCase
 use Rattle.full_check.specs.declared.check.Rising.{Rising}
@@ -26,12 +26,6 @@ unfoldable pub endOf : List ℕ → ℕ
 endOf s = elim (rowsOf s) [ none ↦ 0 | some w ↦ w .end ]
 
 -- ---- the keys of a block
-
--- the order of the keys of a kind of block
-unfoldable pub lessOf : Kind → List ℕ → List ℕ → Bool
-lessOf dataBlock = below
-lessOf indexBlock = below
-lessOf metaBlock = bytesBelow
 
 -- a key may come after the one before it, and the first may always come
 unfoldable pub after : Kind → Bool → List ℕ → List ℕ → Bool
@@ -49,19 +43,6 @@ Tested test d (RisingCase.Yes n) k =
 Tested test d RisingCase.No k = (es : List Entry) → readFrom d 0 [] ≡ some es → test (pairsOf es) ≡ false
 
 -- ---- metaindex and index
-
--- 10, 11, of a block's bytes
-unfoldable pub sortedIn : Kind → List ℕ → Checked (List Entry)
-sortedIn kind s = do
-  es ← orRefuse 10 (wellFormed kind s)
-  _ ← ask 11 (rises (lessOf kind) (pairsOf es))
-  pass es
-
--- 9, 10, 11, of the block at a handle
-unfoldable pub sortedAt : Kind → List ℕ → Handle → Checked (List Entry)
-sortedAt kind t h = do
-  _ ← sealed t h
-  sortedIn kind (contents t h)
 
 -- the code's answer on them
 abbrev pub Judged : Checked (List Entry) → Verdict → Type 0
@@ -126,6 +107,6 @@ withFilter t o ixs = do
 -- what follows the footer
 unfoldable pub afterFooter : List ℕ → Handle → Handle → Checked (Unit {0})
 afterFooter t m i = do
-  ms ← metaindexOf t m
-  ixs ← indexOf t i
+  ms ← sortedAt metaBlock t m
+  ixs ← sortedAt indexBlock t i
   withFilter t (bloomHandle (pairsOf ms)) (pairsOf ixs)

@@ -13,14 +13,13 @@ ghost use Rattle.block_reader.specs.Said.{kindOf};
 ghost use Rattle.block_reader.specs.Steps.{readFrom};
 ghost use Rattle.filters.specs.Filter.{hash};
 ghost use Rattle.filters.specs.FilterBlock.{mayMatch};
-ghost use Rattle.table.specs.Table.{follows, firstFollows, bloomHandle, handleOf, fullCheck};
+ghost use Rattle.table.specs.Table.{follows, firstFollows, bloomHandle, handleOf, fullCheck, lessOf, sortedIn, sortedAt};
 ghost use Rattle.full_check.specs.Answers.{verdictOf};
-ghost use Rattle.full_check.specs.Steps.{endOf, lessOf, after, Tested, edgeOf, ordered, lets, sortedIn, sortedAt, Judged, dataIn, dataAt, DataJudged, blocksAt, withFilter, afterFooter};
+ghost use Rattle.full_check.specs.Steps.{endOf, after, Tested, edgeOf, ordered, lets, Judged, dataIn, dataAt, DataJudged, blocksAt, withFilter, afterFooter};
 use block_reader::block::EntryRead;
 use block_reader::block::Kind;
 use block_reader::block::RowsRead;
 use codec::blockhandle::OneHandle;
-use keys::cmp::Ordering;
 use table_block::footer::FooterRead;
 use table_block::table_block::FilterRead;
 
@@ -62,11 +61,7 @@ fn entries_end(s: &[u8]) -> usize
 fn same_point(a: &[u8], b: &[u8]) -> bool
     ensures { λ r. ⌜ r ≡ isEq (byPoint (pointOf (now (a .entry))) (pointOf (now (b .entry)))) ⌝ }
 {
-    match keys::key_types::cmp_internal_key(a, b) {
-        Ordering::Less => false,
-        Ordering::Equal => true,
-        Ordering::Greater => false,
-    }
+    keys::cmp::is_equal(keys::key_types::cmp_internal_key(a, b))
 }
 
 // Whether b may come after a in a block of a kind; the first key may always come.

@@ -3,6 +3,7 @@ use Prim.Native.Nat.{ℕ, zero, suc, _+_, _*_, _-_, _/_, _%_, _^_, _≤_, _<_, c
 use mathlib.Core.Path.{_≡_, refl, sym, ap, _∙_}
 use mathlib.Core.List.{List, []}
 use native.Mathlib.Omega.{arith}
+use lib.Dec.{isEq}
 use lib.ListN.{length, drop, getD, length-drop}
 use lib.Seq.{drop-cons}
 use borrow.Author.Tests.{lt-ltb, le-ltb}
@@ -13,8 +14,8 @@ use Rattle.keys.specs.declared.cmp.Ordering as OrderingEnum
 use Rattle.keys.specs.declared.cmp.Ordering.the-variants.{Less, Equal, Greater}
 use Rattle.keys.specs.declared.key_types.KeyRead.the-variants.{Key, TooShort}
 use Rattle.keys.specs.declared.key_types.ValueType.the-variants.{TypeValue}
-use Rattle.keys.specs.Answers.{orderAnswer, kindAnswer, keyAnswer}
-use Rattle.keys.specs.Order.{andThen, byBytes, userOf, tagOf, seqOf, kindOf, pointOf, byPoint}
+use Rattle.keys.specs.Answers.{orderAnswer, saysLess, saysEqual, kindAnswer, keyAnswer}
+use Rattle.keys.specs.Order.{isLess, andThen, byBytes, userOf, tagOf, seqOf, kindOf, pointOf, byPoint}
 
 -- ---- comparisons
 
@@ -23,6 +24,18 @@ unfolding orderAnswer
 less-is Ordering·lt e = refl
 less-is Ordering·eq e = cc
 less-is Ordering·gt e = cc
+
+pub says-less : (o : Ordering) → saysLess (orderAnswer o) ≡ isLess o
+unfolding orderAnswer
+says-less Ordering·lt = refl
+says-less Ordering·eq = refl
+says-less Ordering·gt = refl
+
+pub says-equal : (o : Ordering) → saysEqual (orderAnswer o) ≡ isEq o
+unfolding orderAnswer
+says-equal Ordering·lt = refl
+says-equal Ordering·eq = refl
+says-equal Ordering·gt = refl
 
 pub equal-is : (o : Ordering) → orderAnswer o ≡ Equal → o ≡ Ordering·eq
 unfolding orderAnswer

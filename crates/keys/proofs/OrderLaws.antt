@@ -3,10 +3,12 @@ use Prim.Native.Nat.{ℕ, zero, suc, _≤_, _<_, compare, Ordering, Ordering·lt
 use mathlib.Core.Path.{_≡_, refl, sym, ap, ap₂, _∙_}
 use mathlib.Core.Logic.{_⊎_, inl, inr}
 use mathlib.Core.List.{List, [], _∷_}
-use mathlib.Core.Bool.{Bool, true, false, not}
+use mathlib.Core.Bool.{Bool, true, false, not, false≢true}
 use native.Mathlib.Omega.{arith}
 use lib.Dec.{T, isLe, leb, isEq, eqb→eq, leb→le, le→leb, T-not}
-use Rattle.codec.proofs.Prelude.{is-true, is-false}
+use Rattle.codec.specs.Bytes.{sameBytes}
+use Rattle.codec.proofs.BytesLaws.{same-same, same-bytes}
+use Rattle.codec.proofs.Prelude.{test, is-true, is-false, true-is}
 use Rattle.keys.specs.Order.{andThen, isLess, byBytes, Point, pointOf, byPoint, below}
 
 -- ---- comparisons: how the answers on (a, b), (b, c) and (a, c) hang together
@@ -141,6 +143,18 @@ pub bytes-same : (a : List ℕ) → byBytes a a ≡ Ordering·eq
 unfolding byBytes
 bytes-same [] = refl
 bytes-same (x ∷ xs) = rw (compare-same x, bytes-same xs)
+
+-- bytes that compare as equal are the same
+pub bytes-are : (a b : List ℕ) → isEq (byBytes a b) ≡ sameBytes a b
+bytes-are a b =
+    test (sameBytes a b)
+    (λ t. let e : byBytes a b ≡ Ordering·eq = rw (same-bytes a b (true-is t)) (bytes-same b) in ap isEq e ∙ sym t)
+    (λ f. go (byBytes a b) refl f)
+  where
+    go : (o : Ordering) → byBytes a b ≡ o → sameBytes a b ≡ false → isEq (byBytes a b) ≡ sameBytes a b
+    go Ordering·lt e f = ap isEq e ∙ sym f
+    go Ordering·gt e f = ap isEq e ∙ sym f
+    go Ordering·eq e f = absurd (false≢true (sym f ∙ rw (bytes-eq a b e) (same-same b)))
 
 -- ---- points
 

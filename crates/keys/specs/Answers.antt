@@ -1,6 +1,6 @@
 -- The code's answers, by the definitions' outcomes.
 use Prim.Native.Nat.{ℕ, suc, zero, _-_, Ordering, Ordering·lt, Ordering·eq, Ordering·gt}
-use mathlib.Core.Bool.{true, false}
+use mathlib.Core.Bool.{Bool, true, false}
 use mathlib.Core.List.{List}
 use lib.Dec.{ltb}
 use lib.ListN.{length}
@@ -17,6 +17,18 @@ unfoldable pub orderAnswer : Ordering → OrderingEnum.Ordering
 orderAnswer Ordering·lt = OrderCase.Less
 orderAnswer Ordering·eq = OrderCase.Equal
 orderAnswer Ordering·gt = OrderCase.Greater
+
+-- it says "less"
+abbrev pub saysLess : OrderingEnum.Ordering → Bool
+saysLess OrderCase.Less = true
+saysLess OrderCase.Equal = false
+saysLess OrderCase.Greater = false
+
+-- it says "equal"
+abbrev pub saysEqual : OrderingEnum.Ordering → Bool
+saysEqual OrderCase.Less = false
+saysEqual OrderCase.Equal = true
+saysEqual OrderCase.Greater = false
 
 -- a kind byte: 0 is a deletion, any other a value
 unfoldable pub kindAnswer : ℕ → ValueType

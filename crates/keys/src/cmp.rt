@@ -3,9 +3,9 @@ ghost use mathlib.Core.Path.{_≡_};
 ghost use mathlib.Core.List.{_∷_, _++_};
 ghost use Prim.Native.Nat.{compare, min, _+_, _*_, _≤_, _<_};
 ghost use lib.ListN.{length, take};
-ghost use Rattle.codec.specs.Bytes.{common, part};
+ghost use Rattle.codec.specs.Bytes.{common, part, sameBytes};
 ghost use Rattle.codec.specs.Put.{Wrote};
-ghost use Rattle.keys.specs.Answers.{orderAnswer};
+ghost use Rattle.keys.specs.Answers.{orderAnswer, saysLess, saysEqual};
 ghost use Rattle.keys.specs.Order.{byBytes, bytesBelow, shortestSep, userSep, lastTag, separator, shortSucc};
 ghost use Rattle.keys.specs.Plan.{bigOf, Raisable, raised, RaisesFirst, RaisesLast, sepBytes, SepFits, Planned, FirstLow};
 use codec::limits::least;
@@ -138,15 +138,40 @@ pub fn cmp(a: &[u8], b: &[u8]) -> Ordering
     order(a.len() as u64, b.len() as u64)
 }
 
-// Whether a is below b.
-pub fn below(a: &[u8], b: &[u8]) -> bool
-    ensures { λ r. ⌜ r ≡ bytesBelow (now (a .entry)) (now (b .entry)) ⌝ }
+// Whether a comparison says "less".
+pub fn is_less(o: Ordering) -> bool
+    ensures { λ r. ⌜ r ≡ saysLess o ⌝ }
 {
-    match cmp(a, b) {
+    match o {
         Ordering::Less => true,
         Ordering::Equal => false,
         Ordering::Greater => false,
     }
+}
+
+// Whether a comparison says "equal".
+pub fn is_equal(o: Ordering) -> bool
+    ensures { λ r. ⌜ r ≡ saysEqual o ⌝ }
+{
+    match o {
+        Ordering::Less => false,
+        Ordering::Equal => true,
+        Ordering::Greater => false,
+    }
+}
+
+// Whether a is below b.
+pub fn below(a: &[u8], b: &[u8]) -> bool
+    ensures { λ r. ⌜ r ≡ bytesBelow (now (a .entry)) (now (b .entry)) ⌝ }
+{
+    is_less(cmp(a, b))
+}
+
+// Whether a and b are the same bytes.
+pub fn same(a: &[u8], b: &[u8]) -> bool
+    ensures { λ r. ⌜ r ≡ sameBytes (now (a .entry)) (now (b .entry)) ⌝ }
+{
+    is_equal(cmp(a, b))
 }
 
 // Whether the bytes of front, x and those of back are below b.

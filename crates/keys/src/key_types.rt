@@ -156,9 +156,5 @@ pub fn cmp_internal_key(a: &[u8], b: &[u8]) -> Ordering
 pub fn key_below(a: &[u8], b: &[u8]) -> bool
     ensures { λ r. ⌜ r ≡ below (now (a .entry)) (now (b .entry)) ⌝ }
 {
-    match cmp_internal_key(a, b) {
-        Ordering::Less => true,
-        Ordering::Equal => false,
-        Ordering::Greater => false,
-    }
+    crate::cmp::is_less(cmp_internal_key(a, b))
 }

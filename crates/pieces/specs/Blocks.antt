@@ -1,10 +1,10 @@
 -- The answers of building and reading a block, in numbers.
 use Prim.Native.Nat.{ℕ}
-use mathlib.Core.Path.{_≡_}
 use mathlib.Core.Bool.{Bool, cond}
 use mathlib.Core.List.{List}
 use mathlib.Core.Option.{Option}
 use lib.Dec.{eqb}
+use Rattle.codec.specs.Shown.{Shown}
 use Rattle.blocks.specs.Block.{Entry}
 use Rattle.block_builder.specs.Builder.{AddedIs}
 use Rattle.block_builder.specs.declared.block_builder.Added.{Added}
@@ -26,10 +26,8 @@ unfoldable pub addedWith : Added → SalevoniBlockAdded
 addedWith x = record { answer = cond (x .fits) 0 2; block = x .block }
 
 -- adding an entry to the block at the front of out answers r and leaves both runs so
-pub record AddsBlock (b : BlockBuilder) (out out′ restarts restarts′ key value : List ℕ) (r : SalevoniBlockAdded) : Type 0 where
-  pub answer : Added
-  pub shown : r ≡ addedWith answer
-  pub is : AddedIs b 0 out out′ restarts restarts′ key value answer
+abbrev pub AddsBlock : BlockBuilder → List ℕ → List ℕ → List ℕ → List ℕ → List ℕ → List ℕ → SalevoniBlockAdded → Type 0
+AddsBlock b out out′ restarts restarts′ key value r = Shown addedWith (λ x. AddedIs b 0 out out′ restarts restarts′ key value x) r
 
 -- a number without an entry
 abbrev pub noRow : ℕ → SalevoniRow
@@ -43,7 +41,5 @@ rowOut FoundCase.NoPlace = noRow 14
 rowOut FoundCase.Bad = noRow 10
 
 -- reading a block s with a key buffer k answers r and leaves k′
-pub record SaysOut (s : List ℕ) (says : List Entry → Option (Option Entry)) (ordered : List Entry → Bool) (k : List ℕ) (r : SalevoniRow) (k′ : List ℕ) : Type 0 where
-  pub answer : FoundEnum.Found
-  pub shown : r ≡ rowOut answer
-  pub is : Said s says ordered k answer k′
+abbrev pub SaysOut : List ℕ → (List Entry → Option (Option Entry)) → (List Entry → Bool) → List ℕ → SalevoniRow → List ℕ → Type 0
+SaysOut s says ordered k r k′ = Shown rowOut (λ x. Said s says ordered k x k′) r

@@ -1,7 +1,7 @@
 -- The answers of making filters, in numbers.
 use Prim.Native.Nat.{ℕ}
-use mathlib.Core.Path.{_≡_}
 use mathlib.Core.List.{List}
+use Rattle.codec.specs.Shown.{Shown}
 use Rattle.filters.specs.FilterBlock.{Filtering}
 use Rattle.filter_block.specs.Choice.{choiceOf}
 use Rattle.filter_block.specs.Make.{MadeFilters}
@@ -20,7 +20,5 @@ madeOut (MadeCase.Filters bytes made) = record { answer = 0; bytes = bytes; made
 madeOut MadeCase.NoRoom = record { answer = 2; bytes = 0; made = 0 }
 
 -- making filters of some hashes each, behind so many bytes and so many filters, answers r and leaves both runs so
-pub record MadeOut (c : Filtering) (gs : List (List ℕ)) (bytes made : ℕ) (r : SalevoniFilters) (f f′ o o′ : List ℕ) : Type 0 where
-  pub answer : Made
-  pub shown : r ≡ madeOut answer
-  pub is : MadeFilters c gs bytes made answer f f′ o o′
+abbrev pub MadeOut : Filtering → List (List ℕ) → ℕ → ℕ → SalevoniFilters → List ℕ → List ℕ → List ℕ → List ℕ → Type 0
+MadeOut c gs bytes made r f f′ o o′ = Shown madeOut (λ x. MadeFilters c gs bytes made x f f′ o o′) r

@@ -1,7 +1,7 @@
 -- Answers in numbers that several functions share.
 use Prim.Native.Nat.{ℕ}
-use mathlib.Core.Path.{_≡_}
 use mathlib.Core.List.{List}
+use Rattle.codec.specs.Shown.{Shown}
 use Rattle.codec.specs.Put.{Wrote}
 use Rattle.codec.specs.declared.put.Written.{Written}
 use Rattle.codec.specs.declared.put.Written.the-variants as WrittenCase
@@ -13,7 +13,5 @@ sizeOut (WrittenCase.At n) = record { answer = 0; size = n }
 sizeOut WrittenCase.NoRoom = record { answer = 2; size = 0 }
 
 -- writing bs at a place of d answers r and leaves e
-pub record WroteOut (d : List ℕ) (at : ℕ) (bs : List ℕ) (r : SalevoniSize) (e : List ℕ) : Type 0 where
-  pub answer : Written
-  pub shown : r ≡ sizeOut answer
-  pub is : Wrote d at bs answer e
+abbrev pub WroteOut : List ℕ → ℕ → List ℕ → SalevoniSize → List ℕ → Type 0
+WroteOut d at bs r e = Shown sizeOut (λ x. Wrote d at bs x e) r

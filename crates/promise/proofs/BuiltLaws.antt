@@ -4,13 +4,13 @@ use mathlib.Core.Path.{_≡_, refl, sym, _∙_, ap, subst}
 use mathlib.Core.List.{List, [], _∷_, _++_}
 use native.Mathlib.Omega.{arith}
 use lib.ListN.{length, take}
-use Rattle.codec.proofs.Prelude.{true-is}
+use Rattle.codec.proofs.Prelude.{apart, true-is}
 use Rattle.table.specs.Checked.{Checked, pass, refuse}
 use Rattle.table.specs.Options.{Options, Addition}
 use Rattle.table.specs.Build.{Building, begin, accept, acceptAll, finish}
 use Rattle.table.specs.Runs.{Runs, roomOf, startOf, held, between, finished, overlay, overlaid, FitsRoom}
-use Rattle.table.proofs.SufficeLaws.{runs-suffice}
-use Rattle.table.proofs.AcceptLaws.{round-trip}
+use Rattle.table.proofs.SufficeLaws.{runs-suffice, Began, began}
+use Rattle.table.proofs.AcceptLaws.{accept-more, round-trip}
 use Rattle.table.proofs.OverlayLaws.{overlay-front, overlay-long}
 use Rattle.builder.specs.declared.table_builder.Answer.the-variants as AnswerCase
 use Rattle.builder.specs.declared.table_builder.Options as Given
@@ -18,11 +18,7 @@ use Rattle.builder.specs.declared.table_builder.Builder.{Builder}
 use Rattle.builder.specs.declared.table_builder.Outcome.the-variants as OutcomeCase
 use Rattle.builder.specs.State.{optionsOf, Stands}
 use Rattle.builder.specs.Answers.{answerOf, Traced, AddedIs}
-use Rattle.builder.proofs.TraceLaws.{Began, began, accept-more}
 use Rattle.promise.specs.Demand.{Calls, finishAnswers, finishedReads}
-
-pub apart : {A : Type 0} → _≡_ {A = ℕ} 0 1 → A
-apart e = absurd (omega arith)
 
 passed-of : {A C : Type 0} (m : Checked A) → answerOf m ≡ AnswerCase.Ok → ((a : A) → m ≡ pass a → C) → C
 unfolding answerOf

@@ -2,22 +2,24 @@
 use Prim.Native.Nat.{ℕ, _≤_}
 use mathlib.Core.Path.{_≡_, refl, sym, _∙_, ap, ap₂, subst}
 use mathlib.Core.List.{List, [], _∷_, map, List·Memᴰ, List·Memᴰ·head, List·Memᴰ·tail, Memᴰ·map}
-use mathlib.Core.Bool.{Bool, true, false, not, false≢true}
+use mathlib.Core.Bool.{true, false}
 use mathlib.Core.Option.{Option, none, some}
-use lib.Dec.{T, eqb}
-use lib.ListN.{length, take}
+use lib.Dec.{eqb}
+use lib.ListN.{take}
 use borrow.Author.Tests.{eqb-true, eqb-false}
-use Rattle.codec.proofs.Prelude.{test, is-true, is-false}
+use Rattle.codec.proofs.Prelude.{test, apart, not-both}
+use Rattle.codec.proofs.Lists.{mem-unmap}
 use Rattle.keys.specs.Order.{Point, userOf, seqOf, kindOf}
 use Rattle.table.specs.Options.{Addition}
 use Rattle.table.specs.Runs.{overlay}
 use Rattle.table.specs.Table.{plain, Found}
 use Rattle.table.specs.Promise.{Passed, notBelow, seekOf, lookupOf, Newest, additionOf}
 use Rattle.codec.specs.Limits.{within}
-use Rattle.table.specs.Reads.{pointFits, Answer, found, deleted, foundOr, byKind, seekSays, lookupSays, bufferAfter}
+use Rattle.table.specs.Reads.{pointFits, Answer, foundOr, byKind, seekSays, lookupSays, bufferAfter}
 use Rattle.table.proofs.SearchLaws.{seek-means, lookup-means, seek-none-means, lookup-none-means}
 use Rattle.table.proofs.PlaceLaws.{values-stand}
 use Rattle.table.proofs.OverlayLaws.{overlay-front}
+use Rattle.table.proofs.ReadsLaws.{kind-none, kind-some}
 use Rattle.reader.specs.declared.table_reader.Entry.{Entry}
 use Rattle.reader.specs.declared.table_reader.Found as FoundEnum
 use Rattle.reader.specs.declared.table_reader.Found.the-variants as FoundCase
@@ -28,14 +30,7 @@ use Rattle.reader.specs.Walk.{leastPoint, visitOf}
 use Rattle.reader.proofs.TourLaws.{walk-means}
 use Rattle.reader.proofs.LeastLaws.{whole-walk}
 use Rattle.promise.specs.Demand.{shownBy, walkShowsAdditions, NewestOf, Shows, LooksUp, lookupSaysAdditions, SeeksLeast, seekFindsLeast}
-use Rattle.promise.proofs.BuiltLaws.{apart, finished-reads}
-
--- the key of an entry that was found, at the front of the buffer
-front : (x : Found) (k k′ : List ℕ) → k′ ≡ overlay (x .key) k → take (length (x .key)) k′ ≡ x .key
-front x k k′ e = overlay-front (x .key) k′ k e
-
-not-both : (b : Bool) → T b → T (not b) → ⊥
-not-both b t n = false≢true (sym (is-false b n) ∙ is-true b t)
+use Rattle.promise.proofs.BuiltLaws.{finished-reads}
 
 -- ---- seek
 
@@ -50,7 +45,7 @@ module _ (t : List ℕ) (q : Passed t) (p : Point) where
   by-seek (some x) is k {r} {k′} e b =
       record {
         none = (λ g. let z : SoughtCase.Entry (entryOf x) ≡ SoughtCase.None = sym e ∙ g in apart cc, λ f. absurd (f x (seek-means t p q x .0 is)));
-        entry = λ en g. let z : SoughtCase.Entry (entryOf x) ≡ SoughtCase.Entry en = sym e ∙ g in let w : entryOf x ≡ en = cc in (x, seek-means t p q x .0 is, w, ap (λ (y : Entry). take (y .«key_len») k′) (sym w) ∙ front x k k′ b);
+        entry = λ en g. let z : SoughtCase.Entry (entryOf x) ≡ SoughtCase.Entry en = sym e ∙ g in let w : entryOf x ≡ en = cc in (x, seek-means t p q x .0 is, w, ap (λ (y : Entry). take (y .«key_len») k′) (sym w) ∙ overlay-front (x .key) k′ k b);
       }
 
 pub seek-finds-least : seekFindsLeast
@@ -60,18 +55,6 @@ seek-finds-least t q p f k l r k′ s =
     by-seek t q p (seekOf t p) refl k (s .shown ∙ ap soughtOf a-is) (s .is .buffer ∙ ap (λ (a : Answer). bufferAfter a k) a-is)
 
 -- ---- lookup
-
-mem-unmap : {A B : Type 0} (f : A → B) (xs : List A) {b : B} → List·Memᴰ b (map f xs) → (a : A) × List·Memᴰ a xs × (b ≡ f a)
-mem-unmap f (x ∷ xs) (List·Memᴰ·head e) = (x, List·Memᴰ·head refl, e)
-mem-unmap f (x ∷ xs) (List·Memᴰ·tail m) = let r = mem-unmap f xs m in (r .0, List·Memᴰ·tail (r .1), r .2)
-
-kind-none : (x : Found) → eqb (kindOf (x .key)) 0 ≡ true → byKind (some x) ≡ deleted x
-unfolding byKind
-kind-none x e = rw (e, byKind)
-
-kind-some : (x : Found) → eqb (kindOf (x .key)) 0 ≡ false → byKind (some x) ≡ found x
-unfolding byKind
-kind-some x e = rw (e, byKind)
 
 module _ (t : List ℕ) (q : Passed t) (xs : List Addition) (all : map additionOf (plain t) ≡ xs) (p : Point) where
   -- of the newest entry: the newest addition
@@ -94,7 +77,7 @@ module _ (t : List ℕ) (q : Passed t) (xs : List Addition) (all : map additionO
   shows : (x : Found) → List·Memᴰ x (plain t) → (k k′ : List ℕ) → k′ ≡ overlay (x .key) k → Shows t k′ (entryOf x) (additionOf x)
   unfolding additionOf entryOf
   shows x m k k′ b =
-      let f = front x k k′ b in
+      let f = overlay-front (x .key) k′ k b in
       record { value = sym (values-stand t x m); word = ap userOf f; edition = ap seqOf f; kind = ap kindOf f }
 
   none-of : lookupOf t p ≡ none → (a : Addition) → List·Memᴰ a xs → a .word ≡ p .word → a .edition ≤ p .edition → ⊥

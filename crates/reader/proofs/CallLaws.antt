@@ -10,6 +10,7 @@ use lib.ListN.{length, take, drop, length-take, length-drop}
 use lib.Seq.{take-all}
 use Rattle.codec.specs.Bytes.{part}
 use Rattle.codec.specs.Put.{put}
+use Rattle.codec.specs.Shown.{Shown}
 use Rattle.codec.proofs.Lists.{no-length}
 use Rattle.keys.specs.Order.{Point}
 use Rattle.table_block.specs.declared.footer.FooterRead.the-variants as FooterCase
@@ -25,7 +26,6 @@ use Rattle.table_block.proofs.FooterLaws.{no-footer, a-footer}
 use Rattle.table.proofs.CheckedLaws.{refuse-pass}
 use Rattle.reader.specs.declared.table_reader.Entry.{Entry}
 use Rattle.reader.specs.declared.table_reader.Found as FoundEnum
-use Rattle.reader.specs.declared.table_reader.Found.the-variants as FoundCase
 use Rattle.reader.specs.declared.table_reader.Sought.{Sought}
 use Rattle.reader.specs.declared.table_reader.Sought.the-variants as SoughtCase
 use Rattle.reader.specs.Answers.{entryOf, soughtOf, lookedOf, Seeks, Looks, Steps}
@@ -83,14 +83,9 @@ two t p says k e l = record { three = λ f. absurd (false≢true (sym f ∙ e));
 tabled : (t : List ℕ) (p : Point) {says : Answer} {k : List ℕ} {a : Answer} {k′ : List ℕ} → pointFits p ≡ true → 1032 ≤ length k → Reads.Of t says a → k′ ≡ bufferAfter a k → Reads.Sought t p says k a k′
 tabled t p f l of left = record { three = λ g. absurd (false≢true (sym g ∙ f)); two = λ g m. absurd (omega arith); table = λ g m. of; buffer = left }
 
--- a refusal, as each shows it
-pub seek-refused : {t : List ℕ} {p : Point} {k : List ℕ} {n : ℕ} → Reads.Sought t p (seekSays t p) k (refused n) k → Seeks t p k (SoughtCase.Refused n) k
-unfolding soughtOf
-seek-refused {n = n} w = record { answer = refused n; shown = refl; is = w }
-
-pub look-refused : {t : List ℕ} {p : Point} {k : List ℕ} {n : ℕ} → Reads.Sought t p (lookupSays t p) k (refused n) k → Looks t p k (FoundCase.Refused n) k
-unfolding lookedOf
-look-refused {n = n} w = record { answer = refused n; shown = refl; is = w }
+-- an answer, as it is shown
+pub as-shown : {R : Type 0} {show : Answer → R} {so : Answer → Type 0} (a : Answer) → so a → Shown show so (show a)
+as-shown a w = record { answer = a; shown = refl; is = w }
 
 pub step-two : (t : List ℕ) (i at : ℕ) (k : List ℕ) → length k < 1032 → Steps t i at k (SoughtCase.Refused 2) k
 unfolding soughtOf bufferAfter

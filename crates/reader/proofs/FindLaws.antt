@@ -8,7 +8,7 @@ use mathlib.Core.Logic.{⊎-elim}
 use lib.Dec.{T}
 use Rattle.codec.specs.Maybe.{first}
 use Rattle.codec.proofs.Lists.{All, all-imp, orElse, first-yes, first-no, first-none}
-use Rattle.codec.proofs.Prelude.{test, true-is, false-is, is-true}
+use Rattle.codec.proofs.Prelude.{test, true-is, false-is, is-true, apart}
 use Rattle.keys.specs.Order.{Point, pointOf, byPoint, isLess}
 use Rattle.keys.proofs.OrderLaws.{_≺_, _≼_}
 use Rattle.blocks.specs.Block.{Entry}
@@ -24,7 +24,7 @@ use Rattle.reader.specs.declared.table_reader.Sought.{Sought}
 use Rattle.reader.specs.declared.table_reader.Sought.the-variants as SoughtCase
 use Rattle.reader.specs.Answers.{soughtOf}
 use Rattle.reader.specs.Parts.{Indexed, blockAt, Sees, sayAt, Says, Tells, Split, orThen, OrLater, Is}
-use Rattle.reader.proofs.AnswerLaws.{apart, tells-refused, tells-none, tells-with}
+use Rattle.reader.proofs.AnswerLaws.{tells-refused, tells-none, tells-with}
 use Rattle.reader.proofs.PassedLaws.{passed-opens}
 use Rattle.reader.proofs.LocateLaws.{sees-said}
 use Rattle.reader.proofs.LaterLaws.{or-later}

@@ -8,7 +8,7 @@ use native.Mathlib.Omega.{arith}
 use lib.Dec.{eqb}
 use borrow.Author.Tests.{eqb-true, eqb-false, eq-eqb, ne-eqb}
 use Rattle.codec.proofs.Lists.{All, Pairs, all-mem, all-imp}
-use Rattle.codec.proofs.Prelude.{test}
+use Rattle.codec.proofs.Prelude.{test, apart}
 use Rattle.block_reader.specs.declared.block.Which.the-variants as WhichCase
 use Rattle.blocks.specs.Block.{Entry}
 use Rattle.block_reader.specs.Said.{pick, placeIn, atIn, nextIn}
@@ -25,7 +25,7 @@ use Rattle.reader.specs.declared.table_reader.Sought.{Sought}
 use Rattle.reader.specs.declared.table_reader.Sought.the-variants as SoughtCase
 use Rattle.reader.specs.Answers.{soughtOf}
 use Rattle.reader.specs.Parts.{Indexed, blockAt, Sees, sayAt, Says, Tells, Split, orThen, OrLater, Is}
-use Rattle.reader.proofs.AnswerLaws.{apart, tells-refused, tells-with}
+use Rattle.reader.proofs.AnswerLaws.{tells-refused, tells-with}
 use Rattle.reader.proofs.PassedLaws.{passed-opens}
 use Rattle.reader.proofs.LocateLaws.{sees-said}
 use Rattle.reader.proofs.LaterLaws.{place-split, index-starts, or-later}

@@ -6,6 +6,7 @@ use mathlib.Core.Option.{Option, none, some}
 use native.Mathlib.Omega.{arith}
 use lib.Dec.{T}
 use borrow.Author.Tests.{eq-eqb}
+use Rattle.codec.proofs.Prelude.{apart}
 use Rattle.codec.specs.Varint.{Handle}
 use Rattle.codec.proofs.Lists.{Pairs, all-mem}
 use Rattle.block_reader.specs.declared.block.Which.{Which}
@@ -26,7 +27,7 @@ use Rattle.reader.specs.declared.table_reader.Sought.{Sought}
 use Rattle.reader.specs.declared.table_reader.Sought.the-variants as SoughtCase
 use Rattle.reader.specs.Answers.{soughtOf}
 use Rattle.reader.specs.Parts.{Indexed, blockAt, Sees, sayAt, Says, Tells, Split, IsLater, orThen, OrLater}
-use Rattle.reader.proofs.AnswerLaws.{apart, tells-refused, tells-none, tells-with}
+use Rattle.reader.proofs.AnswerLaws.{tells-refused, tells-none, tells-with}
 use Rattle.reader.proofs.PassedLaws.{Opens, passed-opens}
 use Rattle.reader.proofs.HitLaws.{readable-tells}
 use Rattle.reader.proofs.LocateLaws.{block-said}

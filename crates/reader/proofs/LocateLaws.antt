@@ -11,7 +11,7 @@ use Rattle.codec.specs.Bytes.{part}
 use Rattle.codec.specs.Varint.{Handle, oneHandle}
 use Rattle.codec.proofs.VarintCode.{no-one, a-one}
 use Rattle.codec.proofs.Lists.{all-mem}
-use Rattle.codec.proofs.Prelude.{test}
+use Rattle.codec.proofs.Prelude.{test, apart}
 use Rattle.block_reader.specs.declared.block.Found.{Found}
 use Rattle.block_reader.specs.declared.block.Found.the-variants as FoundCase
 use Rattle.blocks.specs.Block.{Entry}
@@ -24,7 +24,7 @@ use Rattle.reader.specs.declared.table_reader.Located.the-variants as Lo
 use Rattle.reader.specs.declared.table_reader.Sought.the-variants as SoughtCase
 use Rattle.reader.specs.Answers.{soughtOf}
 use Rattle.reader.specs.Parts.{Indexed, byHandle, locatedOf, blockAt, Sound, Sees, sayAt, Says, Tells}
-use Rattle.reader.proofs.AnswerLaws.{apart, tells-refused}
+use Rattle.reader.proofs.AnswerLaws.{tells-refused}
 use Rattle.reader.proofs.PassedLaws.{BlockReads, Opens, passed-opens}
 use Rattle.reader.proofs.HitLaws.{Picks, Asks, readable-tells, room}
 

@@ -9,7 +9,7 @@ use lib.ListN.{length, take}
 use Rattle.codec.specs.Bytes.{sameBytes}
 use Rattle.codec.specs.Maybe.{first}
 use Rattle.codec.specs.Varint.{Handle}
-use Rattle.codec.proofs.Prelude.{test, is-true}
+use Rattle.codec.proofs.Prelude.{test, is-true, apart}
 use Rattle.keys.specs.Order.{Point, userOf, tagOf, kindOf}
 use Rattle.block_reader.specs.declared.block.Found.{Found}
 use Rattle.blocks.specs.Block.{Entry, pairsOf}
@@ -23,7 +23,7 @@ use Rattle.table_block.specs.declared.table_block.FilterRead.the-variants as Fi
 use Rattle.table_block.specs.Answers.{bloomAnswer, BloomRead}
 use Rattle.table.specs.Checked.{pass}
 use Rattle.table.specs.Table
-use Rattle.table.specs.Table.{Footer, endsBefore, placed, sealed, contents, blockOf, metaindexOf, bloomHandle, filterOf, mayHold, Opened, opened, handleOf, entriesAt, foundIn, foundsOf}
+use Rattle.table.specs.Table.{Footer, endsBefore, placed, sealed, contents, sortedIn, sortedAt, bloomHandle, filterOf, mayHold, Opened, opened, handleOf, entriesAt, foundIn, foundsOf}
 use Rattle.table.specs.Promise.{Passed, lookupOf}
 use Rattle.table.specs.Reads.{Answer, refused, nothing, found, deleted, byKind, lookupSays, listed}
 use Rattle.table.proofs.CheckedLaws.{passing, asking, pass-same, orRefuse-pass}
@@ -39,7 +39,7 @@ use Rattle.reader.specs.declared.table_reader.Sought.{Sought}
 use Rattle.reader.specs.declared.table_reader.Sought.the-variants as SoughtCase
 use Rattle.reader.specs.Answers.{entryOf, soughtOf, lookedOf}
 use Rattle.reader.specs.Parts.{Indexed, Named, blockAt, Sees, sayAt, Says, Holds, Tells, heldOf, Fair, HeldIs, ofWord, Kinded, IsKinded}
-use Rattle.reader.proofs.AnswerLaws.{apart, shows, by-entry, tells-none}
+use Rattle.reader.proofs.AnswerLaws.{shows, by-entry, tells-none}
 use Rattle.reader.proofs.PassedLaws.{passed-opens}
 use Rattle.reader.proofs.LocateLaws.{block-said}
 use Rattle.reader.proofs.LaterLaws.{laid-from}
@@ -53,8 +53,8 @@ record Meta (t : List ℕ) (h : Handle) (o : Opened) : Type 0 where
   reads : readable (contents t h) ≡ some entries
   filter : filterOf t (bloomHandle (pairsOf entries)) ≡ pass (o .filter)
 
-meta-reads : (t : List ℕ) (h : Handle) {ms : List Entry} → metaindexOf t h ≡ pass ms → readable (contents t h) ≡ some ms
-unfolding metaindexOf sealed blockOf
+meta-reads : (t : List ℕ) (h : Handle) {ms : List Entry} → sortedAt metaBlock t h ≡ pass ms → readable (contents t h) ≡ some ms
+unfolding sortedAt sortedIn sealed
 meta-reads t h p =
     asking _ _ _ p λ intact p.
     passing _ _ p λ es read p.

@@ -17,7 +17,7 @@ use Rattle.blocks.specs.Formed.{dataBlock, indexBlock, isHandle, entryFits, all
 use Rattle.blocks.specs.Search.{readable, inOrder}
 use Rattle.blocks.proofs.FormedLaws.{asPair, formed-read, formed-readable}
 use Rattle.table.specs.Checked.{pass}
-use Rattle.table.specs.Table.{Footer, endsBefore, placed, contents, sealed, blockOf, indexOf, handleOf, entriesAt, dataBlockOf, dataBlocksOf, Edge, Opened, opened, fullCheck}
+use Rattle.table.specs.Table.{Footer, endsBefore, placed, contents, sealed, blockOf, lessOf, sortedIn, sortedAt, handleOf, entriesAt, dataBlockOf, dataBlocksOf, Edge, Opened, opened, fullCheck}
 use Rattle.table.specs.Promise.{Passed}
 use Rattle.table.proofs.CheckedLaws.{passing, asking, pass-same, orRefuse-pass}
 use Rattle.table.proofs.StandLaws.{all-entries, block-of, index-read, Laid, laid, stands}
@@ -89,8 +89,8 @@ record IndexRead (t : List ℕ) (h : Handle) (es : List Entry) : Type 0 where
   order : inOrder es ≡ true
   handles : All (λ (ix : Entry). oneHandle (ix .value) ≡ some (handleOf (ix .value))) es
 
-index-tested : (t : List ℕ) (h : Handle) {es : List Entry} → indexOf t h ≡ pass es → IndexRead t h es
-unfolding indexOf sealed blockOf inOrder entryFits
+index-tested : (t : List ℕ) (h : Handle) {es : List Entry} → sortedAt indexBlock t h ≡ pass es → IndexRead t h es
+unfolding sortedAt sortedIn lessOf sealed inOrder entryFits
 index-tested t h {es} p =
     asking _ _ _ p λ intact p.
     passing _ _ p λ c read p.

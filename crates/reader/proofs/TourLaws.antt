@@ -8,7 +8,7 @@ use lib.Dec.{T}
 use lib.ListN.{length, take}
 use Rattle.codec.specs.Maybe.{first}
 use Rattle.codec.proofs.Lists.{first-yes, first-no}
-use Rattle.codec.proofs.Prelude.{test, true-is, false-is}
+use Rattle.codec.proofs.Prelude.{test, true-is, false-is, apart}
 use Rattle.keys.specs.Order.{Point}
 use Rattle.table.specs.Table.{Found, plain}
 use Rattle.table.specs.Promise.{Passed, notBelow, seekOf}
@@ -21,7 +21,7 @@ use Rattle.reader.specs.declared.table_reader.Sought.{Sought}
 use Rattle.reader.specs.declared.table_reader.Sought.the-variants as SoughtCase
 use Rattle.reader.specs.Answers.{entryOf, soughtOf}
 use Rattle.reader.specs.Walk.{Visit, visitOf, Walk, onward, walkMeans}
-use Rattle.reader.proofs.AnswerLaws.{apart, listed-key}
+use Rattle.reader.proofs.AnswerLaws.{listed-key}
 
 -- ---- the entries from a point on
 

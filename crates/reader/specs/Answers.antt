@@ -1,8 +1,8 @@
 -- The code's answers, by the definitions' outcomes, and what each call promises.
 use Prim.Native.Nat.{ℕ}
-use mathlib.Core.Path.{_≡_}
 use mathlib.Core.List.{List}
 use lib.ListN.{length}
+use Rattle.codec.specs.Shown.{Shown}
 use Rattle.keys.specs.Order.{Point}
 use Rattle.table.specs.Table.{Found}
 use Rattle.table.specs.Reads
@@ -31,16 +31,12 @@ soughtOf (found x) = SoughtCase.Entry (entryOf x)
 soughtOf (deleted x) = SoughtCase.Entry (entryOf x)
 
 -- a seek for a point in a table answers r and turns the key buffer k into k′
-pub record Seeks (t : List ℕ) (p : Point) (k : List ℕ) (r : Sought) (k′ : List ℕ) : Type 0 where
-  pub answer : Answer
-  pub shown : r ≡ soughtOf answer
-  pub is : Reads.Sought t p (seekSays t p) k answer k′
+abbrev pub Seeks : List ℕ → Point → List ℕ → Sought → List ℕ → Type 0
+Seeks t p k r k′ = Shown soughtOf (λ a. Reads.Sought t p (seekSays t p) k a k′) r
 
 -- a step from a place likewise
-pub record Steps (t : List ℕ) (ix at : ℕ) (k : List ℕ) (r : Sought) (k′ : List ℕ) : Type 0 where
-  pub answer : Answer
-  pub shown : r ≡ soughtOf answer
-  pub is : Reads.Stepped t (stepSays t ix at) k answer k′
+abbrev pub Steps : List ℕ → ℕ → ℕ → List ℕ → Sought → List ℕ → Type 0
+Steps t ix at k r k′ = Shown soughtOf (λ a. Reads.Stepped t (stepSays t ix at) k a k′) r
 
 -- lookup: an entry, a deletion, absent, or a refusal's number
 unfoldable pub lookedOf : Answer → FoundEnum.Found
@@ -50,7 +46,5 @@ lookedOf (found x) = FoundCase.Entry (entryOf x)
 lookedOf (deleted x) = FoundCase.Deleted (entryOf x)
 
 -- a lookup of a point likewise
-pub record Looks (t : List ℕ) (p : Point) (k : List ℕ) (r : FoundEnum.Found) (k′ : List ℕ) : Type 0 where
-  pub answer : Answer
-  pub shown : r ≡ lookedOf answer
-  pub is : Reads.Sought t p (lookupSays t p) k answer k′
+abbrev pub Looks : List ℕ → Point → List ℕ → FoundEnum.Found → List ℕ → Type 0
+Looks t p k r k′ = Shown lookedOf (λ a. Reads.Sought t p (lookupSays t p) k a k′) r

@@ -18,7 +18,6 @@ ghost use Rattle.reader.specs.Answers.{soughtOf, lookedOf, Seeks, Looks,
 ghost use Rattle.reader.specs.Parts.{Indexed, Inside, locatedOf, byHandle, Adds, hitOf, Holds, Tells, Sees, Says, IsLater, OrLater, Is, Short, Named, HeldIs, ofWord, Kinded, IsKinded};
 use block_reader::block::Which;
 use codec::blockhandle::OneHandle;
-use keys::cmp::Ordering;
 use table_block::footer;
 use table_block::footer::FooterRead;
 use table_block::table_block::FilterRead;
@@ -416,10 +415,10 @@ fn of_word(answer: Sought, word: &[u8], buf: &[u8]) -> Sought
         Sought::None => Sought::None,
         Sought::Entry(entry) => {
             let n = entry.key_len;
-            match keys::cmp::cmp(keys::key_types::user_key(&buf[..n]), word) {
-                Ordering::Less => Sought::None,
-                Ordering::Greater => Sought::None,
-                Ordering::Equal => Sought::Entry(entry),
+            if keys::cmp::same(keys::key_types::user_key(&buf[..n]), word) {
+                Sought::Entry(entry)
+            } else {
+                Sought::None
             }
         }
     }

@@ -297,13 +297,13 @@ finished b done i = go (b .openBlock) refl
         }
 
 -- ---- what was accepted
-record Took (o : Options) (room : ℕ) (b : Building) (a : Addition) (c : Building) : Type 0 where
-  fits : additionFits a ≡ true
-  up : above a (b .openBlock) ≡ true
-  small : length (finish o (add o b a)) ≤ room
-  is : add o b a ≡ c
+pub record Took (o : Options) (room : ℕ) (b : Building) (a : Addition) (c : Building) : Type 0 where
+  pub fits : additionFits a ≡ true
+  pub up : above a (b .openBlock) ≡ true
+  pub small : length (finish o (add o b a)) ≤ room
+  pub is : add o b a ≡ c
 
-took : (o : Options) (room : ℕ) (b : Building) (a : Addition) (c : Building) → accept o room b a ≡ pass c → Took o room b a c
+pub took : (o : Options) (room : ℕ) (b : Building) (a : Addition) (c : Building) → accept o room b a ≡ pass c → Took o room b a c
 unfolding accept
 took o room b a c e =
     asking 3 _ _ e λ f e.
@@ -323,6 +323,13 @@ module _ (o : Options) (room limit : ℕ) (room-for-empty : 8 ≤ o .blockSize) 
       let here : Inv d (done ++ (a ∷ [])) = rw (k .is) at (add-inv o room-for-empty b done a i (k .fits) (k .up)) in
       let size : length (finish o d) ≤ limit = rw (k .is) at (le-trans (k .small) most) in
       rw append-assoc at (accepted d (done ++ (a ∷ [])) more c here size e1)
+
+-- one addition more
+pub accept-more : (o : Options) (room : ℕ) (b : Building) (more : List Addition) (a : Addition) (c d : Building) → acceptAll o room b more ≡ pass c → accept o room c a ≡ pass d
+    → acceptAll o room b (more ++ (a ∷ [])) ≡ pass d
+unfolding acceptAll _>>=_
+accept-more o room b [] a c d e f = let q : b ≡ c = pass-same e in rw (q, f)
+accept-more o room b (x ∷ more) a c d e f = passing (accept o room b x) _ e λ k t e. rw t (accept-more o room k more a c d e f)
 
 -- ---- the promise
 pub begin-is : (o : Options) → finish o begin ≡ table o []

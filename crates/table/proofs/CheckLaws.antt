@@ -60,15 +60,10 @@ data-some : (t : List ℕ) (f : Option (List ℕ)) (before : Option Edge) (key :
 unfolding Table.dataBlockOf _>>=_ ask
 data-some t f before key h es ps fits p s b q w r k m = simp (handle-of h fits, p, s, b, q, w, r, k, m)
 
-meta-some : (t : List ℕ) (h : Handle) (es : List Entry) → Table.sealed t h ≡ pass tt → Table.blockOf t h metaBlock ≡ pass es
-    → rises bytesBelow (pairsOf es) ≡ true → Table.metaindexOf t h ≡ pass es
-unfolding Table.metaindexOf _>>=_ ask
-meta-some t h es s b r = simp (s, b, r)
-
-index-some : (t : List ℕ) (h : Handle) (es : List Entry) → Table.sealed t h ≡ pass tt → Table.blockOf t h indexBlock ≡ pass es
-    → rises below (pairsOf es) ≡ true → Table.indexOf t h ≡ pass es
-unfolding Table.indexOf _>>=_ ask
-index-some t h es s b r = simp (s, b, r)
+sorted-some : (kind : Kind) (t : List ℕ) (h : Handle) (es : List Entry) → Table.sealed t h ≡ pass tt → Table.blockOf t h kind ≡ pass es
+    → rises (Table.lessOf kind) (pairsOf es) ≡ true → Table.sortedAt kind t h ≡ pass es
+unfolding Table.sortedAt Table.sortedIn Table.blockOf _>>=_ ask
+sorted-some kind t h es s b r = simp (s, b, r)
 
 filter-passes : (t : List ℕ) (h : Handle) (s : List ℕ) → Table.placed t h ≡ pass tt → Table.sealed t h ≡ pass tt
     → Table.contents t h ≡ s → filterFormed s ≡ true → Table.filterOf t (some h) ≡ pass (some s)
@@ -76,7 +71,7 @@ unfolding Table.filterOf _>>=_ ask
 filter-passes t h s p q c e = simp (p, q, c, e)
 
 full-some : (t : List ℕ) (m i : Handle) (ms is : List Entry) (f : Option (List ℕ))
-    → Table.footer t ≡ pass (record { metaindex = m; index = i }) → Table.metaindexOf t m ≡ pass ms → Table.indexOf t i ≡ pass is
+    → Table.footer t ≡ pass (record { metaindex = m; index = i }) → Table.sortedAt metaBlock t m ≡ pass ms → Table.sortedAt indexBlock t i ≡ pass is
     → Table.filterOf t (Table.bloomHandle (pairsOf ms)) ≡ pass f → Table.dataBlocksOf t f none (pairsOf is) ≡ pass tt → Table.fullCheck t ≡ pass tt
 unfolding Table.fullCheck Table.opened _>>=_
 full-some t m i ms is f e1 e2 e3 e4 e5 = rw (e1, e2, e3, e4) e5
@@ -183,19 +178,19 @@ module _ (o : Options) (cs : List Chunk) (small : length (table o cs) ≤ tableL
   foot-long : length (foot o cs) ≡ 48
   foot-long = footer-long (metaHandle o cs) (indexHandle o cs)
 
-  table-meta : Table.metaindexOf t (metaHandle o cs) ≡ pass (planned d d [] 0 (metaPair o cs ∷ []))
-  unfolding metaHandle metaBytes
+  table-meta : Table.sortedAt metaBlock t (metaHandle o cs) ≡ pass (planned d d [] 0 (metaPair o cs ∷ []))
+  unfolding metaHandle metaBytes Table.lessOf
   table-meta =
       rw (at-meta o cs)
-      (meta-some _ _ _ (framed-sealed (untilMeta o cs) (metaBytes o cs) _)
+      (sorted-some metaBlock _ _ _ (framed-sealed (untilMeta o cs) (metaBytes o cs) _)
       (block-passes d (untilMeta o cs) _ (metaPair o cs ∷ []) metaBlock (omega (arith, table-long o cs, lim)) (unfold enough in refl) meta-good)
       (rw (planned-pairs d d [] 0 (metaPair o cs ∷ [])) (meta-rises (metaPair o cs))))
 
-  table-index : Table.indexOf t (indexHandle o cs) ≡ pass (planned i i [] 0 (indexPairs o 0 cs))
-  unfolding indexHandle indexBytes
+  table-index : Table.sortedAt indexBlock t (indexHandle o cs) ≡ pass (planned i i [] 0 (indexPairs o 0 cs))
+  unfolding indexHandle indexBytes Table.lessOf
   table-index =
       rw (at-index o cs)
-      (index-some _ _ _ (framed-sealed (untilIndex o cs) (indexBytes o cs) _)
+      (sorted-some indexBlock _ _ _ (framed-sealed (untilIndex o cs) (indexBytes o cs) _)
       (block-passes i (untilIndex o cs) _ (indexPairs o 0 cs) indexBlock (omega (arith, table-long o cs, lim)) (unfold enough in refl)
       (index-fit o none 0 cs good (omega (arith, table-long o cs, lim))))
       (rw (planned-pairs i i [] 0 (indexPairs o 0 cs)) rising))

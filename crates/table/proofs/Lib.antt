@@ -1,5 +1,6 @@
 pub mod CheckedLaws
 pub mod StandLaws
+pub mod ReadsLaws
 pub mod SearchLaws
 pub mod PlaceLaws
 pub mod FrameLaws

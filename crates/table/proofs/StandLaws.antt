@@ -16,7 +16,7 @@ use Rattle.blocks.specs.Formed.{Kind, dataBlock, indexBlock, all, enough, rises
 use Rattle.blocks.proofs.FormedLaws.{asPair, formed-read, rises-pairs}
 use Rattle.blocks.proofs.ReadLaws.{EntryBefore}
 use Rattle.table.specs.Checked.{pass}
-use Rattle.table.specs.Table.{contents, placed, sealed, blockOf, indexOf, mayHold, Edge, follows, firstFollows, handleOf, dataBlockOf, dataBlocksOf, Opened, opened, fullCheck, Found, foundIn, entriesAt, foundsOf, readBlocks, plain}
+use Rattle.table.specs.Table.{contents, placed, sealed, blockOf, sortedIn, sortedAt, mayHold, Edge, follows, firstFollows, handleOf, dataBlockOf, dataBlocksOf, Opened, opened, fullCheck, Found, foundIn, entriesAt, foundsOf, readBlocks, plain}
 use Rattle.table.proofs.CheckedLaws.{passing, asking, pass-same, orRefuse-pass}
 
 -- a block that passed
@@ -69,8 +69,8 @@ blocks-stand t f before (ix ∷ ixs) p =
     let r = block-stands t f before ix read in
     Standing.cons (r .1) (blocks-stand t f (some (edgeOf t ix)) ixs (rw (r .0) p))
 
-pub index-read : (t : List ℕ) (h : Handle) {es : List Entry} → indexOf t h ≡ pass es → entriesAt t h ≡ es
-unfolding indexOf sealed
+pub index-read : (t : List ℕ) (h : Handle) {es : List Entry} → sortedAt indexBlock t h ≡ pass es → entriesAt t h ≡ es
+unfolding sortedAt sortedIn blockOf sealed
 index-read t h {es} p =
     asking _ _ _ p λ intact p.
     passing _ _ p λ c read p.

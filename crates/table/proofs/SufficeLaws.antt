@@ -1,5 +1,5 @@
--- What the runs hold, between calls and after finish, is no more than the finished table takes.
-use Prim.Native.Nat.{ℕ, _+_, _*_, _≤_}
+-- What the runs hold, between calls and after finish, is no more than the finished table takes; and what start asked for.
+use Prim.Native.Nat.{ℕ, _+_, _*_, _/_, _≤_, min}
 use mathlib.Core.Path.{_≡_, refl, ap}
 use mathlib.Core.List.{List, [], _∷_, _++_, map}
 use mathlib.Core.Bool.{true}
@@ -8,6 +8,7 @@ use native.Mathlib.Nat.{le-refl}
 use native.Mathlib.Omega.{arith}
 use lib.Dec.{leb, eqb}
 use lib.ListN.{length, length-append, length-map}
+use borrow.Author.Tests.{leb-true}
 use Rattle.codec.specs.Bytes.{common}
 use Rattle.codec.proofs.Prelude.{test, both, is-true}
 use Rattle.keys.specs.Order.{below}
@@ -22,14 +23,16 @@ use Rattle.filters.specs.FilterBlock.{Filters, noFilters, wait, filtersUpTo, la
 use Rattle.filters.specs.FilterCount.{filterCountOf, countLast, filterBlockSize}
 use Rattle.filters.proofs.FilterBlockLaws.{starts-length}
 use Rattle.filters.proofs.FilterCountLaws.{count-upTo, count-last, Kept, upTo-kept, last-kept}
-use Rattle.table.specs.Options.{Options, indexInterval, optionsFit, Addition}
+use Rattle.table.specs.Checked.{pass}
+use Rattle.table.specs.Options.{Options, indexInterval, optionsFit, emptySize, tableLimit, Addition}
 use Rattle.table.specs.Table.{Edge}
 use Rattle.table.specs.Build.{Chunk, Building, pairOf, written, endOf, indexPairs, filtersOf, begin, lastKey, closeLast, finish}
-use Rattle.table.specs.Runs.{filtersNow, entriesOf, restartsIn, held, between, finished, FitsRoom}
+use Rattle.table.specs.Runs.{Runs, filtersNow, entriesOf, restartsIn, held, between, finished, FitsRoom, roomOf, startOf}
 use Rattle.table.specs.Counts.{Counts, countsOf, countClose, finishedSize}
 use Rattle.table.specs.Sizes.{runsSuffice}
+use Rattle.table.proofs.CheckedLaws.{asking, ask-pass}
 use Rattle.table.proofs.FrameLaws.{framed-length}
-use Rattle.table.proofs.StepLaws.{last-none, last-some, empty-size}
+use Rattle.table.proofs.StepLaws.{last-none, last-some, empty-most, empty-size}
 use Rattle.table.proofs.PlainLaws.{allOf}
 use Rattle.table.proofs.CheckLaws.{edge, Good}
 use Rattle.table.proofs.AcceptLaws.{Inv, inv-begin, within-parts, accepted, begin-is, size-fits}
@@ -173,3 +176,49 @@ pub runs-suffice : runsSuffice
 runs-suffice o room more b fits least accepts =
     let start = accepted o room room (size-fits o (is-true (optionsFit o) fits)) (le-refl room) begin [] more b inv-begin (rw (begin-is, empty-size) least) accepts in
     (between-fits o room b more (start .0) (start .1), finished-fits o room b more (start .0) (start .1))
+
+-- ---- what start asked for
+
+-- runs that are long enough for a room
+pub record Rooms (room : ℕ) (r : Runs) : Type 0 where
+  pub limit : room ≤ tableLimit
+  pub out : room ≤ length (r .out)
+  pub index : room ≤ length (r .index)
+  pub filters : room ≤ length (r .filters)
+  pub restarts : room / 4 ≤ length (r .restarts)
+  pub indexRestarts : room / 4 ≤ length (r .indexRestarts)
+  pub offsets : room / 4 ≤ length (r .offsets)
+  pub hashes : room / 4 ≤ length (r .hashes)
+
+pub record Began (o : Options) (r : Runs) : Type 0 where
+  pub fits : optionsFit o ≡ true
+  pub least : emptySize (o .filtering) ≤ roomOf (length (r .out))
+  pub rooms : Rooms (roomOf (length (r .out))) r
+
+pub began : (o : Options) (r : Runs) → startOf o r ≡ pass tt → Began o r
+unfolding startOf roomOf
+began o r e =
+    asking 1 _ _ e λ f e.
+    asking 2 _ _ e λ x e.
+    asking 2 _ _ e λ y e.
+    asking 2 _ _ e λ z e.
+    let n = min tableLimit (length (r .out)) in
+    let a = leb-true (emptySize (o .filtering)) (length (r .out)) (is-true _ x) in
+    let u = both (leb n (length (r .index))) _ (is-true _ y) in
+    let v = both (leb (n / 4) (length (r .restarts))) _ (is-true _ z) in
+    let w = both (leb (n / 4) (length (r .offsets))) _ (is-true _ (ask-pass 2 _ e)) in
+    record {
+      fits = is-true _ f;
+      least = omega (arith, a, empty-most (o .filtering));
+      rooms =
+          record {
+            limit = omega arith;
+            out = omega arith;
+            index = leb-true _ _ (u .0);
+            filters = leb-true _ _ (u .1);
+            restarts = leb-true _ _ (v .0);
+            indexRestarts = leb-true _ _ (v .1);
+            offsets = leb-true _ _ (w .0);
+            hashes = leb-true _ _ (w .1);
+          };
+    }

@@ -68,21 +68,24 @@ blockOf t h kind = orRefuse 10 (wellFormed kind (contents t h))
 
 -- ---- metaindex, index and filter
 
--- 9, 10, 11
-unfoldable pub metaindexOf : List ℕ → Handle → Checked (List Entry)
-metaindexOf t h = do
-  _ ← sealed t h
-  es ← blockOf t h metaBlock
-  _ ← ask 11 (rises bytesBelow (pairsOf es))
+-- the order of the keys of a kind of block
+unfoldable pub lessOf : Kind → List ℕ → List ℕ → Bool
+lessOf dataBlock = below
+lessOf indexBlock = below
+lessOf metaBlock = bytesBelow
+
+-- 10, 11, of a block's bytes
+unfoldable pub sortedIn : Kind → List ℕ → Checked (List Entry)
+sortedIn kind s = do
+  es ← orRefuse 10 (wellFormed kind s)
+  _ ← ask 11 (rises (lessOf kind) (pairsOf es))
   pass es
 
--- 9, 10, 11
-unfoldable pub indexOf : List ℕ → Handle → Checked (List Entry)
-indexOf t h = do
+-- 9, 10, 11: the entries of the metaindex or the index
+unfoldable pub sortedAt : Kind → List ℕ → Handle → Checked (List Entry)
+sortedAt kind t h = do
   _ ← sealed t h
-  es ← blockOf t h indexBlock
-  _ ← ask 11 (rises below (pairsOf es))
-  pass es
+  sortedIn kind (contents t h)
 
 -- the handle of the filter block, where the metaindex names one
 unfoldable pub bloomHandle : List Pair → Option Handle
@@ -112,8 +115,8 @@ pub record Opened : Type 0 where
 unfoldable pub opened : List ℕ → Checked Opened
 opened t = do
   ft ← footer t
-  ms ← metaindexOf t (ft .metaindex)
-  ixs ← indexOf t (ft .index)
+  ms ← sortedAt metaBlock t (ft .metaindex)
+  ixs ← sortedAt indexBlock t (ft .index)
   f ← filterOf t (bloomHandle (pairsOf ms))
   pass (record { index = ixs; filter = f })
 

@@ -9,7 +9,7 @@ new-requires c κs = search needs
 
 returns : tie.Need-returns
 unfolding begun
-returns c = cc
+returns c = rw (c .new .ensures)
 
 pub begun-spec : {M : Type 1} → statement M
 begun-spec = tie.close (tie.spec new-requires returns)

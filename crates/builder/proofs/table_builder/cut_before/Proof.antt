@@ -10,11 +10,8 @@ use borrow.Author.Needs.{needs}
 use Rattle.builder.proofs.table_builder.cut_before.Statement.{statement}
 use Rattle.builder.proofs.table_builder.cut_before.Tie as tie
 
-is-cut-requires : tie.Need-is-cut-requires
-is-cut-requires c κs = search needs
-
 returns : tie.Need-returns
-returns c = let a = c .before .before .before .args in mid-not (a .s) (a .key .now) (c .before .is-cut .ensures) (not-true _ (c .if1 .taken))
+returns c = let a = c .before .before in mid-not (a .args .s) (a .args .key .now) (a .pre .1 .1) (not-true _ (c .if1 .taken))
 
 slice-aggregate-put-separator : tie.Need-slice-aggregate-put-separator
 slice-aggregate-put-separator c = search needs
@@ -29,19 +26,18 @@ slice-aggregate-closed : tie.Need-slice-aggregate-closed
 slice-aggregate-closed c = let p = c .before .before .put-separator in sym (length-take-le (p .result) _ (omega (arith, p .ensures .0, p .ensures .1 .0)))
 
 closed-requires : tie.Need-closed-requires
-closed-requires c κs = let p = c .before .before .put-separator in (c .before .before .before .before .before .before .before .before .before .before .before .pre .0, simp length-take (omega (arith, p .ensures .0)))
+closed-requires c κs = (c .before .before .before .before .before .before .before .before .before .before .pre .0, simp length-take (omega (arith, c .before .before .put-separator .ensures .0)))
 
 returns-2 : tie.Need-returns-2
 unfolding lastOf sepOf
 returns-2 c =
-    let a = c .before .before .before .before .before .before .before .before .before .before .before .before .args in
-    c .closed .ensures ∙ ap (closedState (a .s)) (c .before .before .before .put-separator .ensures .1 .1) ∙ mid-cut (a .s) (a .key .now) (c .before .before .before .before .before .before .before .before .before .before .is-cut .ensures) (not-false _ (c .before .before .before .before .before .before .before .before .before .if1 .left))
+    let a = c .before .before .before .before .before .before .before .before .before .before .before in
+    c .closed .ensures ∙ ap (closedState (a .args .s)) (c .before .before .before .put-separator .ensures .1 .1) ∙ mid-cut (a .args .s) (a .args .key .now) (a .pre .1 .1) (not-false _ (c .before .before .before .before .before .before .before .before .before .if1 .left))
 
 pub cut-before-spec : {M : Type 1} → statement M
 cut-before-spec =
     tie.close
     (tie.spec
-    is-cut-requires
     returns
     slice-aggregate-put-separator
     put-separator-requires

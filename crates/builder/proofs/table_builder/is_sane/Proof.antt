@@ -21,7 +21,7 @@ both-requires-2 c κs = search needs
 
 returns : tie.Need-returns
 unfolding sane
-returns c = cc
+returns c = rw (c .both2 .ensures, c .before .both .ensures, c .before .before .before .before .same-lengths .ensures, c .before .before .before .options-fit .ensures, c .before .before .sizes-fit .ensures)
 
 pub is-sane-spec : {M : Type 1} → statement M
 is-sane-spec =

@@ -9,7 +9,7 @@ begun-requires c κs = search needs
 
 returns : tie.Need-returns
 unfolding noBuilder
-returns c = cc
+returns c = c .begun .ensures
 
 pub no-builder-spec : {M : Type 1} → statement M
 no-builder-spec = tie.close (tie.spec begun-requires returns)

@@ -22,7 +22,7 @@ both-requires-2 c κs = search needs
 
 returns : tie.Need-returns
 unfolding optionsFit optionsOf
-returns c = cc
+returns c = rw (c .both2 .ensures, c .before .before .both .ensures, c .before .within2 .ensures, c .before .before .before .before .within .ensures, c .before .before .before .filter-fits .ensures)
 
 pub options-fit-spec : {M : Type 1} → statement M
 options-fit-spec =

@@ -30,7 +30,7 @@ both-requires-6 c κs = search needs
 
 returns : tie.Need-returns
 unfolding runsFit
-returns c = cc
+returns c = rw (c .both6 .ensures, c .before .both5 .ensures, c .before .before .both4 .ensures, c .before .before .before .before .before .both3 .ensures, c .before .before .before .before .before .before .before .before .both2 .ensures, c .before .before .before .before .before .before .before .before .before .before .before .both .ensures, c .before .before .before .before .empty-size .ensures, c .before .before .before .before .before .before .before .before .before .before .before .before .before .before .room .ensures)
 
 pub runs-fit-spec : {M : Type 1} → statement M
 runs-fit-spec =

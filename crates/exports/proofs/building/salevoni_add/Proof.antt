@@ -38,7 +38,7 @@ returns : tie.Need-returns
 returns c =
     let a = c .before .before .before .before .before .before .before .before .before .before .before .before .before .before .before in
     let b = a .before .before .before .before .before .before .before .before in
-    adds (b .builder-in .ensures) (a .add .ensures) (c .added-out .ensures)
+    adds (b .before .before .before .before .before .before .before .before .before .before .args .state) (b .builder-in .ensures) (a .add .ensures) (c .added-out .ensures)
 
 pub salevoni-add-spec : {M : Type 1} → statement M
 salevoni-add-spec =

@@ -38,7 +38,7 @@ returns : tie.Need-returns
 returns c =
     let a = c .before .before .before .before .before .before .before .before .before .before .before .before .before .before .before in
     let b = a .before .before .before .before .before .before .before .before in
-    finishes (b .builder-in .ensures) (a .finish .ensures) (c .finished-out .ensures)
+    finishes (b .before .before .before .before .before .before .before .before .args .state) (b .builder-in .ensures) (a .finish .ensures) (c .finished-out .ensures)
 
 pub salevoni-finish-spec : {M : Type 1} → statement M
 salevoni-finish-spec =

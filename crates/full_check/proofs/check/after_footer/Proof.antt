@@ -6,10 +6,11 @@ use native.Mathlib.Omega.{arith}
 use Rattle.codec.specs.Varint.{Handle}
 use Rattle.block_reader.specs.declared.block.Kind.the-variants as KindCase
 use Rattle.block_reader.specs.Said.{kindOf}
+use Rattle.table.specs.Table.{sortedAt}
 use Rattle.full_check.specs.declared.check.Verdict.{Verdict}
 use Rattle.full_check.specs.declared.check.Verdict.the-variants as VerdictCase
 use Rattle.full_check.specs.Answers.{verdictOf}
-use Rattle.full_check.specs.Steps.{sortedAt, Judged}
+use Rattle.full_check.specs.Steps.{Judged}
 use Rattle.full_check.proofs.BlockLaws.{Sorted, sorted-read}
 use Rattle.full_check.proofs.DataLaws.{refused}
 use Rattle.full_check.proofs.CheckLaws.{meta-refused, index-refused, both-sorted}

@@ -12,10 +12,10 @@ use Rattle.blocks.specs.Block.{Entry, pairsOf}
 use Rattle.blocks.specs.Formed.{rises}
 use Rattle.block_reader.specs.Said.{kindOf}
 use Rattle.block_reader.specs.Steps.{readFrom}
-use Rattle.table.specs.Table.{Edge, firstFollows}
+use Rattle.table.specs.Table.{Edge, firstFollows, lessOf}
 use Rattle.full_check.specs.declared.check.Rising.{Rising}
 use Rattle.full_check.specs.declared.check.Rising.the-variants as RisingCase
-use Rattle.full_check.specs.Steps.{lessOf, Tested, edgeOf}
+use Rattle.full_check.specs.Steps.{Tested, edgeOf}
 use Rattle.full_check.proofs.KeyLaws.{ordered-first, ordered-falls, ordered-index, ordered-all}
 use borrow.Author.Needs.{needs}
 use Rattle.full_check.proofs.check.in_order.Statement.{statement}

@@ -14,7 +14,8 @@ use Rattle.block_reader.specs.Said.{kindOf}
 use Rattle.block_reader.proofs.EntryLaws.{Taken}
 use Rattle.block_reader.proofs.RestLaws.{rest-bad, rest-taken}
 use Rattle.block_reader.proofs.WalkLaws.{Scanning, scan-start, scan-bad, scan-end, scan-more, scan-hit}
-use Rattle.full_check.specs.Steps.{lessOf, after}
+use Rattle.table.specs.Table.{lessOf}
+use Rattle.full_check.specs.Steps.{after}
 use Rattle.codec.proofs.PutLaws.{put-start}
 use Rattle.full_check.proofs.KeyLaws.{RisesLeft, rises-start, rises-end, rises-more, rises-stop}
 use borrow.Author.Needs.{needs}

@@ -1,7 +1,7 @@
 -- `full_check::check::same_point` meets its contract.
-use mathlib.Core.Path.{sym, ap, _∙_}
-use lib.Dec.{isEq}
-use Rattle.keys.proofs.AnswerLaws.{less-is, equal-is, greater-is}
+use mathlib.Core.Path.{ap, _∙_}
+use Rattle.keys.specs.Answers.{saysEqual}
+use Rattle.keys.proofs.AnswerLaws.{says-equal}
 use borrow.Author.Needs.{needs}
 use Rattle.full_check.proofs.check.same_point.Statement.{statement}
 use Rattle.full_check.proofs.check.same_point.Tie as tie
@@ -9,32 +9,11 @@ use Rattle.full_check.proofs.check.same_point.Tie as tie
 cmp-internal-key-requires : tie.Need-cmp-internal-key-requires
 cmp-internal-key-requires c κs = search needs
 
-enum-told : tie.Need-enum-told
-enum-told c = search needs
-
-enum-told-2 : tie.Need-enum-told-2
-enum-told-2 c = search needs
-
-enum-told-3 : tie.Need-enum-told-3
-enum-told-3 c = search needs
+is-equal-requires : tie.Need-is-equal-requires
+is-equal-requires c κs = search needs
 
 returns : tie.Need-returns
-returns c = sym (ap isEq (less-is _ (sym (c .before .before .cmp-internal-key .ensures) ∙ c .enum-told .given .1)))
-
-returns-2 : tie.Need-returns-2
-returns-2 c = sym (ap isEq (equal-is _ (sym (c .before .before .cmp-internal-key .ensures) ∙ c .enum-told2 .given .1)))
-
-returns-3 : tie.Need-returns-3
-returns-3 c = sym (ap isEq (greater-is _ (sym (c .before .before .cmp-internal-key .ensures) ∙ c .enum-told3 .given .1)))
+returns c = c .is-equal .ensures ∙ ap saysEqual (c .before .cmp-internal-key .ensures) ∙ says-equal _
 
 pub same-point-spec : {M : Type 1} → statement M
-same-point-spec =
-    tie.close
-    (tie.spec
-    cmp-internal-key-requires
-    enum-told
-    enum-told-2
-    enum-told-3
-    returns
-    returns-2
-    returns-3)
+same-point-spec = tie.close (tie.spec cmp-internal-key-requires is-equal-requires returns)

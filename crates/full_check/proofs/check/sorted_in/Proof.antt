@@ -7,8 +7,9 @@ use lib.ListN.{take}
 use lib.Seq.{length-take-le}
 use Rattle.blocks.specs.Formed.{Kind, rises}
 use Rattle.block_reader.specs.Said.{kindOf}
+use Rattle.table.specs.Table.{lessOf}
 use Rattle.full_check.specs.declared.check.Rising.{Rising}
-use Rattle.full_check.specs.Steps.{lessOf, Tested}
+use Rattle.full_check.specs.Steps.{Tested}
 use Rattle.full_check.proofs.BlockLaws.{end-within, Formed, formed, formed-to, sorted-malformed, judged-pass, sorted-falls, sorted-rises}
 use borrow.Author.Needs.{needs}
 use Rattle.full_check.proofs.check.sorted_in.Statement.{statement}

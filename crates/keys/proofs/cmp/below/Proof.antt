@@ -1,7 +1,8 @@
 -- `keys::cmp::below` meets its contract.
-use mathlib.Core.Path.{sym, ap, _∙_}
-use Rattle.keys.specs.Order.{isLess, bytesBelow}
-use Rattle.keys.proofs.AnswerLaws.{less-is, equal-is, greater-is}
+use mathlib.Core.Path.{ap, _∙_}
+use Rattle.keys.specs.Answers.{saysLess}
+use Rattle.keys.specs.Order.{bytesBelow}
+use Rattle.keys.proofs.AnswerLaws.{says-less}
 use borrow.Author.Needs.{needs}
 use Rattle.keys.proofs.cmp.below.Statement.{statement}
 use Rattle.keys.proofs.cmp.below.Tie as tie
@@ -9,27 +10,12 @@ use Rattle.keys.proofs.cmp.below.Tie as tie
 cmp-requires : tie.Need-cmp-requires
 cmp-requires c κs = search needs
 
-enum-told : tie.Need-enum-told
-enum-told c = search needs
-
-enum-told-2 : tie.Need-enum-told-2
-enum-told-2 c = search needs
-
-enum-told-3 : tie.Need-enum-told-3
-enum-told-3 c = search needs
+is-less-requires : tie.Need-is-less-requires
+is-less-requires c κs = search needs
 
 returns : tie.Need-returns
 unfolding bytesBelow
-returns c = sym (ap isLess (less-is _ (sym (c .before .before .cmp .ensures) ∙ c .enum-told .given .1)))
-
-returns-2 : tie.Need-returns-2
-unfolding bytesBelow
-returns-2 c = sym (ap isLess (equal-is _ (sym (c .before .before .cmp .ensures) ∙ c .enum-told2 .given .1)))
-
-returns-3 : tie.Need-returns-3
-unfolding bytesBelow
-returns-3 c = sym (ap isLess (greater-is _ (sym (c .before .before .cmp .ensures) ∙ c .enum-told3 .given .1)))
+returns c = c .is-less .ensures ∙ ap saysLess (c .before .cmp .ensures) ∙ says-less _
 
 pub below-spec : {M : Type 1} → statement M
-below-spec =
-    tie.close (tie.spec cmp-requires enum-told enum-told-2 enum-told-3 returns returns-2 returns-3)
+below-spec = tie.close (tie.spec cmp-requires is-less-requires returns)

@@ -2,7 +2,9 @@
 use mathlib.Core.Path.{sym, _∙_, refl, subst}
 use native.Mathlib.Omega.{arith}
 use Rattle.reader.specs.Parts.{Short}
-use Rattle.reader.proofs.CallLaws.{three, two, footed, look-refused, look-found, footer-named, footer-indexed}
+use Rattle.table.specs.Reads.{refused}
+use Rattle.reader.specs.Answers.{lookedOf}
+use Rattle.reader.proofs.CallLaws.{three, two, footed, as-shown, look-found, footer-named, footer-indexed}
 use Rattle.reader.proofs.AnswerLaws.{tells-short}
 use borrow.Author.Needs.{needs}
 use Rattle.reader.proofs.table_reader.lookup.Statement.{statement}
@@ -12,10 +14,12 @@ fits-requires : tie.Need-fits-requires
 fits-requires c κs = search needs
 
 returns : tie.Need-returns
-returns c = look-refused (three _ _ _ _ (sym (c .before .fits2 .ensures) ∙ c .if1 .left))
+unfolding lookedOf
+returns c = as-shown (refused _) (three _ _ _ _ (sym (c .before .fits2 .ensures) ∙ c .if1 .left))
 
 returns-2 : tie.Need-returns-2
-returns-2 c = look-refused (two _ _ _ _ (sym (c .before .before .fits2 .ensures) ∙ c .before .if1 .taken) (c .if2 .taken))
+unfolding lookedOf
+returns-2 c = as-shown (refused _) (two _ _ _ _ (sym (c .before .before .fits2 .ensures) ∙ c .before .if1 .taken) (c .if2 .taken))
 
 decode-requires : tie.Need-decode-requires
 decode-requires c κs = search needs
@@ -47,7 +51,8 @@ by-kind-requires : tie.Need-by-kind-requires
 by-kind-requires c κs = (omega arith, subst Short (sym (c .before .before .before .hand .ensures .0)) (tells-short (c .before .before .before .before .before .before .before .look .ensures)))
 
 returns-3 : tie.Need-returns-3
-returns-3 c = look-refused (footed _ _ (c .before .before .before .before .if2 .left) (sym (c .before .before .before .decode .ensures) ∙ c .before .n .given .1) _ (sym (c .before .before .before .before .before .before .fits2 .ensures) ∙ c .before .before .before .before .before .if1 .taken))
+unfolding lookedOf
+returns-3 c = as-shown (refused _) (footed _ _ (c .before .before .before .before .if2 .left) (sym (c .before .before .before .decode .ensures) ∙ c .before .n .given .1) _ (sym (c .before .before .before .before .before .before .fits2 .ensures) ∙ c .before .before .before .before .before .if1 .taken))
 
 same-length : tie.Need-same-length
 same-length c = search needs

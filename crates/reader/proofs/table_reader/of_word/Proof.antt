@@ -4,9 +4,10 @@ use mathlib.Core.Path.{_≡_, sym, _∙_, ap, subst}
 use mathlib.Core.Bool.{Bool}
 use mathlib.Core.List.{List}
 use native.Mathlib.Omega.{arith}
+use lib.ListN.{take}
 use lib.Seq.{length-take-le}
 use Rattle.codec.specs.Bytes.{sameBytes}
-use Rattle.block_reader.proofs.FilledLaws.{name-same, name-less, name-greater}
+use Rattle.keys.specs.Order.{userOf}
 use Rattle.reader.specs.Parts.{Short}
 use Rattle.reader.proofs.LookLaws.{word-refused, word-none, word-other, word-same}
 use borrow.Author.Needs.{needs}
@@ -23,10 +24,9 @@ n c = c .before .answer2 .given .0 .0 .«key_len»
 short : (c : K) → n c ≤ 1032
 short c = subst Short (c .before .answer2 .given .1) (c .before .before .before .before .before .pre .1)
 
--- the test of the user key that was compared
-user : (c : tie.After-cmp) {b : Bool} → b ≡ sameBytes (c .before .user-key .result .now) (c .before .before .before .before .before .before .before .before .args .word .now)
-    → b ≡ sameBytes (Rattle.keys.specs.Order.userOf (lib.ListN.take (n (c .before .before .before)) (c .before .before .before .before .before .before .before .before .args .buf .now))) (c .before .before .before .before .before .before .before .before .args .word .now)
-user c e = e ∙ ap (λ (k : List ℕ). sameBytes k (c .before .before .before .before .before .before .before .before .args .word .now)) (c .before .user-key .ensures)
+-- the test of the user key
+user : (c : tie.After-same) {b : Bool} → c .same .result ≡ b → b ≡ sameBytes (userOf (take (n (c .before .before .before)) (c .before .before .before .before .before .before .before .before .args .buf .now))) (c .before .before .before .before .before .before .before .before .args .word .now)
+user c e = sym e ∙ c .same .ensures ∙ ap (λ (k : List ℕ). sameBytes k (c .before .before .before .before .before .before .before .before .args .word .now)) (c .before .user-key .ensures)
 
 enum-known-answer : tie.Need-enum-known-answer
 enum-known-answer c = search needs
@@ -45,17 +45,8 @@ slice-aggregate-user-key c =
 user-key-requires : tie.Need-user-key-requires
 user-key-requires c κs = search needs
 
-cmp-requires : tie.Need-cmp-requires
-cmp-requires c κs = search needs
-
-enum-told-2 : tie.Need-enum-told-2
-enum-told-2 c = search needs
-
-enum-told-3 : tie.Need-enum-told-3
-enum-told-3 c = search needs
-
-enum-told-4 : tie.Need-enum-told-4
-enum-told-4 c = search needs
+same-requires : tie.Need-same-requires
+same-requires c κs = search needs
 
 returns : tie.Need-returns
 returns c = λ a shown holds. word-refused _ a shown (c .before .answer .given .1)
@@ -64,13 +55,10 @@ returns-2 : tie.Need-returns-2
 returns-2 c = λ a shown holds. word-none _ a shown (c .enum-told .given .1)
 
 returns-3 : tie.Need-returns-3
-returns-3 c = λ a shown holds. word-other _ a shown _ (c .before .before .before .before .before .before .answer2 .given .1) (user (c .before .before) (name-less _ _ (sym (c .before .before .cmp .ensures) ∙ c .enum-told2 .given .1))) holds
+returns-3 c = λ a shown holds. word-same _ a shown _ (c .before .before .before .before .before .answer2 .given .1) (user (c .before) (c .if1 .taken)) holds
 
 returns-4 : tie.Need-returns-4
-returns-4 c = λ a shown holds. word-other _ a shown _ (c .before .before .before .before .before .before .answer2 .given .1) (user (c .before .before) (name-greater _ _ (sym (c .before .before .cmp .ensures) ∙ c .enum-told3 .given .1))) holds
-
-returns-5 : tie.Need-returns-5
-returns-5 c = λ a shown holds. word-same _ a shown _ (c .before .before .before .before .before .before .answer2 .given .1) (user (c .before .before) (name-same _ _ (sym (c .before .before .cmp .ensures) ∙ c .enum-told4 .given .1))) holds
+returns-4 c = λ a shown holds. word-other _ a shown _ (c .before .before .before .before .before .answer2 .given .1) (user (c .before) (c .if1 .left)) holds
 
 pub of-word-spec : {M : Type 1} → statement M
 of-word-spec =
@@ -81,12 +69,8 @@ of-word-spec =
     enum-known-answer-2
     slice-aggregate-user-key
     user-key-requires
-    cmp-requires
-    enum-told-2
-    enum-told-3
-    enum-told-4
+    same-requires
     returns
     returns-2
     returns-3
-    returns-4
-    returns-5)
+    returns-4)

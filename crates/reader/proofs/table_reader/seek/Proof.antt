@@ -1,7 +1,9 @@
 -- `reader::table_reader::seek` meets its contract.
 use mathlib.Core.Path.{sym, _∙_, refl}
 use native.Mathlib.Omega.{arith}
-use Rattle.reader.proofs.CallLaws.{three, two, footed, seek-refused, seek-found, footer-indexed}
+use Rattle.table.specs.Reads.{refused}
+use Rattle.reader.specs.Answers.{soughtOf}
+use Rattle.reader.proofs.CallLaws.{three, two, footed, as-shown, seek-found, footer-indexed}
 use Rattle.reader.proofs.AnswerLaws.{tells-short}
 use borrow.Author.Needs.{needs}
 use Rattle.reader.proofs.table_reader.seek.Statement.{statement}
@@ -11,10 +13,12 @@ fits-requires : tie.Need-fits-requires
 fits-requires c κs = search needs
 
 returns : tie.Need-returns
-returns c = seek-refused (three _ _ _ _ (sym (c .before .fits2 .ensures) ∙ c .if1 .left))
+unfolding soughtOf
+returns c = as-shown (refused _) (three _ _ _ _ (sym (c .before .fits2 .ensures) ∙ c .if1 .left))
 
 returns-2 : tie.Need-returns-2
-returns-2 c = seek-refused (two _ _ _ _ (sym (c .before .before .fits2 .ensures) ∙ c .before .if1 .taken) (c .if2 .taken))
+unfolding soughtOf
+returns-2 c = as-shown (refused _) (two _ _ _ _ (sym (c .before .before .fits2 .ensures) ∙ c .before .if1 .taken) (c .if2 .taken))
 
 decode-requires : tie.Need-decode-requires
 decode-requires c κs = search needs
@@ -38,7 +42,8 @@ hand-requires : tie.Need-hand-requires
 hand-requires c κs = (omega arith, omega (arith, c .before .before .before .before .before .before .before .before .before .if2 .left), tells-short (c .before .before .before .find .ensures))
 
 returns-3 : tie.Need-returns-3
-returns-3 c = seek-refused (footed _ _ (c .before .before .before .before .if2 .left) (sym (c .before .before .before .decode .ensures) ∙ c .before .n .given .1) _ (sym (c .before .before .before .before .before .before .fits2 .ensures) ∙ c .before .before .before .before .before .if1 .taken))
+unfolding soughtOf
+returns-3 c = as-shown (refused _) (footed _ _ (c .before .before .before .before .if2 .left) (sym (c .before .before .before .decode .ensures) ∙ c .before .n .given .1) _ (sym (c .before .before .before .before .before .before .fits2 .ensures) ∙ c .before .before .before .before .before .if1 .taken))
 
 same-length : tie.Need-same-length
 same-length c = search needs
