@@ -1,0 +1,205 @@
+-- Two answers that meet one promise are the same.
+use Prim.Native.Nat.{ℕ, _≤_, _<_}
+use mathlib.Core.Path.{_≡_, refl, sym, _∙_, ap, subst}
+use mathlib.Core.List.{List}
+use mathlib.Core.Bool.{true, false, false≢true}
+use mathlib.Core.Logic.{_⊎_, inl, inr}
+use native.Mathlib.Omega.{arith}
+use lib.ListN.{length, take}
+use lib.Seq.{length-take-le}
+use Rattle.codec.proofs.Prelude.{test, split, apart}
+use Rattle.keys.specs.Order.{Point}
+use Rattle.filter_block.specs.Choice.{choiceOf}
+use Rattle.filter_block.specs.declared.filter.Filter.{Filter}
+use Rattle.filter_block.specs.declared.filter.Filter.the-variants as FilterCase
+use Rattle.table.specs.Checked.{Checked, pass, refuse}
+use Rattle.table.specs.Options.{Options}
+use Rattle.table.specs.Build.{Building, accept}
+use Rattle.table.specs.Counts.{Counts}
+use Rattle.table.specs.Runs.{Runs, roomOf}
+use Rattle.table.specs.Reads.{Answer, refused, pointFits, bufferAfter, Of, seekSays, lookupSays, stepSays}
+use Rattle.table.specs.Reads
+use Rattle.blocks.specs.Count.{BlockCount}
+use Rattle.block_builder.specs.Builder.{countIn}
+use Rattle.block_builder.specs.declared.block_builder.BlockBuilder.{BlockBuilder}
+use Rattle.builder.specs.declared.table_builder.Options as Given
+use Rattle.builder.specs.declared.table_builder.Builder.{Builder}
+use Rattle.builder.specs.State.{optionsOf, countsIn, Stands}
+use Rattle.builder.specs.Answers.{answerOf, Traced}
+use Rattle.reader.specs.declared.table_reader.Found.{Found}
+use Rattle.reader.specs.declared.table_reader.Sought.{Sought}
+use Rattle.reader.specs.Answers.{soughtOf, lookedOf}
+use Rattle.promise.specs.OneAnswer
+
+module _ {A : Type 0} where
+  -- both are this one
+  both : {x y a : A} → x ≡ a → y ≡ a → x ≡ y
+  both p q = p ∙ sym q
+
+pub equal-fixed : OneAnswer.equalFixed
+equal-fixed A a x y p q = both p q
+
+pub shown-fixed : OneAnswer.shownFixed
+shown-fixed A R M show so f x y g h =
+    let e = f (g .answer, x .1) (h .answer, y .1) (g .is) (h .is) in
+    λ i. ((g .shown ∙ ap (λ (z : A × M). show (z .0)) e ∙ sym (h .shown)) i, e i .1)
+
+-- ---- pieces
+
+pub wrote-fixed : OneAnswer.wroteFixed
+wrote-fixed d at bs x y h k = λ i. (both (h .said) (k .said) i, both (h .left) (k .left) i)
+
+pub counted-fixed : OneAnswer.countedFixed
+counted-fixed b key value x y h k = λ i. record { fits = both (h .fits) (k .fits) i; block = both (h .block) (k .block) i }
+
+pub block-added-fixed : OneAnswer.blockAddedFixed
+block-added-fixed b at out restarts key value x y h k = λ i.
+    (record { fits = both (h .fits) (k .fits) i; block = both (h .block) (k .block) i }, both (h .written) (k .written) i, both (h .marked) (k .marked) i)
+
+pub made-fixed : OneAnswer.madeFixed
+made-fixed c gs bytes made f o x y h k = λ i. (both (h .said) (k .said) i, both (h .filters) (k .filters) i, both (h .offsets) (k .offsets) i)
+
+pub said-fixed : OneAnswer.saidFixed
+said-fixed s says ordered k es is rise x y g h = λ i. (both (g .answer es is rise) (h .answer es is rise) i, both (g .buffer es is rise) (h .buffer es is rise) i)
+
+pub bloom-fixed : OneAnswer.bloomFixed
+bloom-fixed s es is x y g h = both (g .answer es is) (h .answer es is)
+
+-- ---- a table
+
+module _ (t : List ℕ) (says : Answer) where
+  -- the one answer about a settled table
+  settled : OneAnswer.Settled t → (a : Answer) × ((b : Answer) → Of t says b → b ≡ a)
+  settled (inl q) = (says, λ b h. h .passed q)
+  settled (inr (n, f)) = (refused n, λ b h. h .footed n f)
+
+  stepped : (k : List ℕ) → (length k < 1032) ⊎ OneAnswer.Settled t → (a : Answer) × ((b : Answer) (k′ : List ℕ) → Reads.Stepped t says k b k′ → b ≡ a)
+  stepped k d = split (length k) 1032 (λ short. (refused 2, λ b k′ h. h .two short)) (λ long. go long d)
+    where
+      go : 1032 ≤ length k → (length k < 1032) ⊎ OneAnswer.Settled t → (a : Answer) × ((b : Answer) (k′ : List ℕ) → Reads.Stepped t says k b k′ → b ≡ a)
+      go long (inl short) = absurd (omega arith)
+      go long (inr w) = let s = settled w in (s .0, λ b k′ h. s .1 b (h .table long))
+
+  asked : (p : Point) (k : List ℕ) → OneAnswer.Asked t p k → (a : Answer) × ((b : Answer) (k′ : List ℕ) → Reads.Sought t p says k b k′ → b ≡ a)
+  asked p k d =
+      test (pointFits p)
+      (λ fits. split (length k) 1032 (λ short. (refused 2, λ b k′ h. h .two fits short)) (λ long. go fits long d))
+      (λ out. (refused 3, λ b k′ h. h .three out))
+    where
+      go : pointFits p ≡ true → 1032 ≤ length k → OneAnswer.Asked t p k → (a : Answer) × ((b : Answer) (k′ : List ℕ) → Reads.Sought t p says k b k′ → b ≡ a)
+      go fits long (inl out) = absurd (false≢true (sym out ∙ fits))
+      go fits long (inr (inl short)) = absurd (omega arith)
+      go fits long (inr (inr w)) = let s = settled w in (s .0, λ b k′ h. s .1 b (h .table fits long))
+
+-- reads that answer one thing, and leave the key buffer by it
+answer-fixed : (k : List ℕ) (so : Answer → List ℕ → Type 0) → ((a : Answer) (k′ : List ℕ) → so a k′ → k′ ≡ bufferAfter a k)
+    → (a : Answer) × ((b : Answer) (k′ : List ℕ) → so b k′ → b ≡ a) → OneAnswer.Fixed (Answer × List ℕ) (λ x. so (x .0) (x .1))
+answer-fixed k so left w x y g h =
+    let e = both (w .1 (x .0) (x .1) g) (w .1 (y .0) (y .1) h) in
+    λ i. (e i, (left (x .0) (x .1) g ∙ ap (λ (b : Answer). bufferAfter b k) e ∙ sym (left (y .0) (y .1) h)) i)
+
+pub seek-fixed : OneAnswer.seekFixed
+seek-fixed t p k d = shown-fixed Answer Sought (List ℕ) soughtOf (λ a k′. Reads.Sought t p (seekSays t p) k a k′) (answer-fixed k _ (λ a k′ h. h .buffer) (asked t (seekSays t p) p k d))
+
+pub lookup-fixed : OneAnswer.lookupFixed
+lookup-fixed t p k d = shown-fixed Answer Found (List ℕ) lookedOf (λ a k′. Reads.Sought t p (lookupSays t p) k a k′) (answer-fixed k _ (λ a k′ h. h .buffer) (asked t (lookupSays t p) p k d))
+
+pub step-fixed : OneAnswer.stepFixed
+step-fixed t ix at k d = shown-fixed Answer Sought (List ℕ) soughtOf (λ a k′. Reads.Stepped t (stepSays t ix at) k a k′) (answer-fixed k _ (λ a k′ h. h .buffer) (stepped t (stepSays t ix at) k d))
+
+-- ---- building
+
+pub start-fixed : OneAnswer.startFixed
+start-fixed o r x y h k = λ i. (record { answer = both (h .answer) (k .answer) i; state = both (h .state) (k .state) i }, both (h .kept) (k .kept) i)
+
+pub add-refused-fixed : OneAnswer.addRefusedFixed
+add-refused-fixed s r a e x y h k =
+    let g = h .refused _ (h .early e) in
+    let l = k .refused _ (k .early e) in
+    λ i. (record { answer = both (h .early e) (k .early e) i; state = both (g .0) (l .0) i }, both (g .1) (l .1) i)
+
+pub finish-refused-fixed : OneAnswer.finishRefusedFixed
+finish-refused-fixed s r e x y h k =
+    let g = h .refused _ (h .early e) in
+    let l = k .refused _ (k .early e) in
+    λ i. (record { answer = both (h .early e) (k .early e) i; state = both (g .0) (l .0) i }, both (g .1) (l .1) i)
+
+pub finish-fixed : OneAnswer.finishFixed
+finish-fixed s r w x y h k =
+    let o = w .options in
+    let xs = w .additions in
+    let b = w .last in
+    let p = h .answer o xs b (w .accepts) (w .stands) in
+    let q = k .answer o xs b (w .accepts) (w .stands) in
+    λ i.
+    (record { answer = both p q i; state = both (h .over _ p) (k .over _ q) i }, both (h .runs o xs b (w .accepts) (w .stands)) (k .runs o xs b (w .accepts) (w .stands)) i)
+
+-- the filter choice is told by what it stands for
+choice-fixed : (a b : Filter) → choiceOf a ≡ choiceOf b → a ≡ b
+unfolding choiceOf
+choice-fixed FilterCase.None FilterCase.None e = refl
+choice-fixed FilterCase.None (FilterCase.Bits n) e = apart cc
+choice-fixed (FilterCase.Bits n) FilterCase.None e = apart cc
+choice-fixed (FilterCase.Bits n) (FilterCase.Bits m) e = let w : n ≡ m = cc in ap FilterCase.Bits w
+
+options-fixed : (a b : Given.Options) → optionsOf a ≡ optionsOf b → a ≡ b
+unfolding optionsOf
+options-fixed a b e = λ i.
+    record {
+      «block_size» = ap (λ (o : Options). o .blockSize) e i;
+      interval = ap (λ (o : Options). o .interval) e i;
+      filter = choice-fixed (a .filter) (b .filter) (ap (λ (o : Options). o .filtering) e) i;
+    }
+
+-- a block's counts, interval and the room of its last key fix it but for what lies beyond that key
+block-fixed : (a b : BlockBuilder) → a .interval ≡ b .interval → countIn a ≡ countIn b → a .len ≤ length (a .last) → b .len ≤ length (b .last)
+    → OneAnswer.trimmedBlock a ≡ OneAnswer.trimmedBlock b
+unfolding OneAnswer.trimmedBlock countIn
+block-fixed a b every e l m =
+    let key : take (a .len) (a .last) ≡ take (b .len) (b .last) = ap (λ (c : BlockCount). c .last) e in
+    λ i.
+    record {
+      interval = every i;
+      bytes = ap (λ (c : BlockCount). c .bytes) e i;
+      restarts = ap (λ (c : BlockCount). c .restarts) e i;
+      since = ap (λ (c : BlockCount). c .since) e i;
+      len = (sym (length-take-le (a .len) (a .last) l) ∙ ap length key ∙ length-take-le (b .len) (b .last) m) i;
+      last = key i;
+    }
+
+module _ {o : Options} {c : Building} {s z : Builder} {r : Runs} (h : Stands o c s r) (k : Stands o c z r) where
+  stands-fixed : OneAnswer.trimmed s ≡ OneAnswer.trimmed z
+  unfolding OneAnswer.trimmed countsIn
+  stands-fixed =
+      let e : countsIn s ≡ countsIn z = both (h .counts) (k .counts) in
+      λ i.
+      record {
+        options = options-fixed (s .options) (z .options) (both (h .options) (k .options)) i;
+        lengths = both (h .lengths) (k .lengths) i;
+        written = ap (λ (n : Counts). n .written) e i;
+        pending = block-fixed (s .pending) (z .pending) (both (h .interval) (k .interval)) (ap (λ (n : Counts). n .openBlock) e) (omega (arith, h .whole .0, h .short .0)) (omega (arith, k .whole .0, k .short .0)) i;
+        indexed = block-fixed (s .indexed) (z .indexed) (both (h .indexInterval) (k .indexInterval)) (ap (λ (n : Counts). n .index) e) (omega (arith, h .whole .1, h .short .1)) (omega (arith, k .whole .1, k .short .1)) i;
+        filtered = ap (λ (n : Counts). n .filters .bytes) e i;
+        made = ap (λ (n : Counts). n .filters .made) e i;
+        waiting = ap (λ (n : Counts). n .filters .waiting) e i;
+        finished = both (h .going) (k .going) i;
+      }
+
+pub add-fixed : OneAnswer.addFixed
+unfolding answerOf
+add-fixed s r a w x y u v h k =
+    let o = w .options in
+    let b = w .last in
+    let f = h .traced o (w .additions) b (w .accepts) (w .stands) in
+    let g = k .traced o (w .additions) b (w .accepts) (w .stands) in
+    go (accept o (roomOf (length (r .out))) b a) refl f g
+  where
+    go : (m : Checked Building) → accept (w .options) (roomOf (length (r .out))) (w .last) a ≡ m → Traced (w .options) (w .last) r u a x → Traced (w .options) (w .last) r v a y
+        → (x .answer ≡ y .answer) × (u ≡ v) × (OneAnswer.trimmed (x .state) ≡ OneAnswer.trimmed (y .state))
+    go (pass c) e f g =
+        let runs = both (f .runs c e) (g .runs c e) in
+        (both (f .answer) (g .answer), runs, stands-fixed (f .stands c e) (subst (λ (q : Runs). Stands (w .options) c (y .state) q) (sym runs) (g .stands c e)))
+    go (refuse n) e f g =
+        let p = h .refused n (f .answer ∙ ap answerOf e) in
+        let q = k .refused n (g .answer ∙ ap answerOf e) in
+        (both (f .answer) (g .answer), both (p .1) (q .1), ap OneAnswer.trimmed (both (p .0) (q .0)))
