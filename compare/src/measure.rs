@@ -48,15 +48,38 @@ fn rate(who: &str, what: &str, bytes: usize, f: impl FnMut()) {
     println!("{who}\t{what}\t{:.1}\tMB/s", bytes as f64 / 1e6 / best(f));
 }
 
-/// Words to ask for, in no order: of the table, or between its words.
-fn asked(r: &mut Rng, absent: usize) -> Vec<Vec<u8>> {
-    (0..ASKED).map(|_| word(2 * r.within(0, ENTRIES - 1) + absent)).collect()
+/// Words to ask for, in no order, and whether each is of the table; the others stand between its words.
+type Asked = Vec<(Vec<u8>, bool)>;
+
+fn asked(r: &mut Rng, mut there: impl FnMut(usize) -> bool) -> Asked {
+    (0..ASKED)
+        .map(|i| {
+            let t = there(i);
+            (word(2 * r.within(0, ENTRIES - 1) + !t as usize), t)
+        })
+        .collect()
+}
+
+/// Lookups that all hit, that all miss, and that do so by turns.
+fn lookups(who: &str, kinds: &[(&str, Asked)], mut finds: impl FnMut(&[u8]) -> bool) {
+    for (what, words) in kinds {
+        each(who, what, words.len(), || {
+            for (w, there) in words {
+                assert_eq!(finds(w), *there);
+            }
+        });
+    }
 }
 
 pub fn run() {
     let items = items();
     let mut r = Rng(8);
-    let (there, absent) = (asked(&mut r, 0), asked(&mut r, 1));
+    let kinds = [
+        ("lookup, there", asked(&mut r, |_| true)),
+        ("lookup, absent", asked(&mut r, |_| false)),
+        ("lookup, half there", asked(&mut r, |i| i % 2 == 0)),
+    ];
+    let absent: Vec<&[u8]> = kinds[1].1.iter().map(|(w, _)| &w[..]).collect();
     let top = EDITION_MAX;
     let mut key = [0; 1032];
 
@@ -67,13 +90,11 @@ pub fn run() {
         black_box(ours::table(BLOCK, INTERVAL, Some(BITS), &items, &mut runs).unwrap());
     });
     rate("ours", "full check", table.len(), || assert_eq!(ours::check(black_box(&table)), 0));
-    for (what, words, found) in [("lookup, there", &there, 0), ("lookup, absent", &absent, 100)] {
-        each("ours", what, words.len(), || {
-            for w in words {
-                assert_eq!(ours::lookup_in(&table, w, top, &mut key).answer, found);
-            }
-        });
-    }
+    lookups("ours", &kinds, |w| match ours::lookup_in(&table, w, top, &mut key).answer {
+        0 => true,
+        100 => false,
+        n => panic!("a lookup answers {n}"),
+    });
     each("ours", "seek", absent.len(), || {
         for w in &absent {
             black_box(ours::seek_in(&table, w, top, &mut key));
@@ -88,15 +109,10 @@ pub fn run() {
     });
     // a cache that holds every block
     let t = Table::new(opt.clone(), share(Cache::new(10_000)), Rc::new(Box::new(theirs.clone())), theirs.len()).unwrap();
-    for (what, words, found) in [("lookup, there", &there, true), ("lookup, absent", &absent, false)] {
-        each("text", what, words.len(), || {
-            for w in words {
-                let k = LookupKey::new(w, top);
-                let e = t.get(k.internal_key()).unwrap();
-                assert_eq!(e.is_some_and(|(key, _)| key[..key.len() - 8] == w[..]), found);
-            }
-        });
-    }
+    lookups("text", &kinds, |w| {
+        let k = LookupKey::new(w, top);
+        t.get(k.internal_key()).unwrap().is_some_and(|(key, _)| key[..key.len() - 8] == w[..])
+    });
     let mut it = t.iter();
     each("text", "seek", absent.len(), || {
         for w in &absent {
@@ -106,17 +122,13 @@ pub fn run() {
     });
 
     let list: Vec<(Vec<u8>, u64, Vec<u8>)> = items.iter().map(|i| (i.word.clone(), i.edition, i.value.clone())).collect();
-    for (what, words, found) in [("lookup, there", &there, true), ("lookup, absent", &absent, false)] {
-        each("list", what, words.len(), || {
-            for w in words {
-                let at = list.partition_point(|(x, _, _)| x < w);
-                assert_eq!(list.get(at).is_some_and(|(x, e, v)| x == w && *e <= top && black_box(v).len() == 64), found);
-            }
-        });
-    }
+    lookups("list", &kinds, |w| {
+        let at = list.partition_point(|(x, _, _)| &x[..] < w);
+        list.get(at).is_some_and(|(x, e, v)| x == w && *e <= top && black_box(v).len() == 64)
+    });
     each("list", "seek", absent.len(), || {
         for w in &absent {
-            black_box(list.partition_point(|(x, _, _)| x < w));
+            black_box(list.partition_point(|(x, _, _)| &x[..] < *w));
         }
     });
 }

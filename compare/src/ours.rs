@@ -96,6 +96,30 @@ pub struct Footer {
     pub index_size: usize,
 }
 
+/// A function over the seven runs: its name, what stands before them, and what behind.
+macro_rules! over_runs {
+    ($name:ident($($before:ident: $b:ty),*)($($behind:ident: $e:ty),*)) => {
+        fn $name(
+            $($before: $b,)*
+            out: *mut u8,
+            out_len: usize,
+            index: *mut u8,
+            index_len: usize,
+            filters: *mut u8,
+            filters_len: usize,
+            restarts: *mut u32,
+            restarts_len: usize,
+            index_restarts: *mut u32,
+            index_restarts_len: usize,
+            offsets: *mut u32,
+            offsets_len: usize,
+            hashes: *mut u32,
+            hashes_len: usize,
+            $($behind: $e),*
+        ) -> Built;
+    };
+}
+
 #[link(name = "exports", kind = "static")]
 extern "C" {
     fn salevoni_check(table: *const u8, len: usize) -> u32;
@@ -110,66 +134,9 @@ extern "C" {
         key_size: usize,
     ) -> Entry;
     fn salevoni_step(table: *const u8, len: usize, index: usize, entry: usize, key: *mut u8, key_size: usize) -> Entry;
-    fn salevoni_start(
-        block_size: usize,
-        interval: usize,
-        filter: u32,
-        bits: u32,
-        out: *mut u8,
-        out_len: usize,
-        index: *mut u8,
-        index_len: usize,
-        filters: *mut u8,
-        filters_len: usize,
-        restarts: *mut u32,
-        restarts_len: usize,
-        index_restarts: *mut u32,
-        index_restarts_len: usize,
-        offsets: *mut u32,
-        offsets_len: usize,
-        hashes: *mut u32,
-        hashes_len: usize,
-    ) -> Built;
-    fn salevoni_add(
-        state: State,
-        out: *mut u8,
-        out_len: usize,
-        index: *mut u8,
-        index_len: usize,
-        filters: *mut u8,
-        filters_len: usize,
-        restarts: *mut u32,
-        restarts_len: usize,
-        index_restarts: *mut u32,
-        index_restarts_len: usize,
-        offsets: *mut u32,
-        offsets_len: usize,
-        hashes: *mut u32,
-        hashes_len: usize,
-        word: *const u8,
-        word_len: usize,
-        edition: u64,
-        kind: u8,
-        value: *const u8,
-        value_len: usize,
-    ) -> Built;
-    fn salevoni_finish(
-        state: State,
-        out: *mut u8,
-        out_len: usize,
-        index: *mut u8,
-        index_len: usize,
-        filters: *mut u8,
-        filters_len: usize,
-        restarts: *mut u32,
-        restarts_len: usize,
-        index_restarts: *mut u32,
-        index_restarts_len: usize,
-        offsets: *mut u32,
-        offsets_len: usize,
-        hashes: *mut u32,
-        hashes_len: usize,
-    ) -> Built;
+    over_runs!(salevoni_start(block_size: usize, interval: usize, filter: u32, bits: u32)());
+    over_runs!(salevoni_add(state: State)(word: *const u8, word_len: usize, edition: u64, kind: u8, value: *const u8, value_len: usize));
+    over_runs!(salevoni_finish(state: State)());
 }
 
 #[link(name = "pieces", kind = "static")]
