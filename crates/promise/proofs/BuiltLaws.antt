@@ -10,7 +10,7 @@ use Rattle.table.specs.Options.{Options, Addition}
 use Rattle.table.specs.Build.{Building, begin, accept, acceptAll, finish}
 use Rattle.table.specs.Runs.{Runs, roomOf, startOf, held, between, finished, overlay, overlaid, FitsRoom}
 use Rattle.table.proofs.SufficeLaws.{runs-suffice, Began, began}
-use Rattle.table.proofs.AcceptLaws.{accept-more, round-trip}
+use Rattle.table.proofs.AcceptLaws.{accept-last, accept-more, round-trip}
 use Rattle.table.proofs.OverlayLaws.{overlay-front, overlay-long}
 use Rattle.builder.specs.declared.table_builder.Answer.the-variants as AnswerCase
 use Rattle.builder.specs.declared.table_builder.Options as Given
@@ -18,7 +18,7 @@ use Rattle.builder.specs.declared.table_builder.Builder.{Builder}
 use Rattle.builder.specs.declared.table_builder.Outcome.the-variants as OutcomeCase
 use Rattle.builder.specs.State.{optionsOf, Stands}
 use Rattle.builder.specs.Answers.{answerOf, Traced, AddedIs}
-use Rattle.promise.specs.Demand.{Calls, finishAnswers, finishedReads}
+use Rattle.promise.specs.Demand.{Calls, addAnswers, finishAnswers, finishedReads}
 
 passed-of : {A C : Type 0} (m : Checked A) → answerOf m ≡ AnswerCase.Ok → ((a : A) → m ≡ pass a → C) → C
 unfolding answerOf
@@ -56,6 +56,12 @@ stood {o} (Calls.refuse {xs = xs} {s = s} {r′ = r′} {n = n} c d e) =
     let h = stood c in
     let k = d .refused n e in
     subst (λ (z : Builder). Stood (optionsOf o) xs z r′) (sym (k .0)) (subst (λ (q : Runs). Stood (optionsOf o) xs s q) (sym (k .1)) h)
+
+pub add-answers : addAnswers
+add-answers o xs s r r′ a x c d =
+    let h = stood c in
+    let t = d .traced (optionsOf o) xs (h .last) (h .accepts) (h .stands) in
+    t .answer ∙ ap answerOf (sym (accept-last (optionsOf o) (roomOf (length (r .out))) begin xs a (h .last) (h .accepts)))
 
 pub finish-answers : finishAnswers
 finish-answers o xs s r r′ x c f =

@@ -5,7 +5,6 @@ use mathlib.Core.List.{List, [], _∷_, map, List·Memᴰ, List·Memᴰ·head, L
 use mathlib.Core.Bool.{true, false}
 use mathlib.Core.Option.{Option, none, some}
 use lib.Dec.{eqb}
-use lib.ListN.{take}
 use borrow.Author.Tests.{eqb-true, eqb-false}
 use Rattle.codec.proofs.Prelude.{test, apart, not-both}
 use Rattle.codec.proofs.Lists.{mem-unmap}
@@ -29,23 +28,37 @@ use Rattle.reader.specs.Answers.{entryOf, soughtOf, lookedOf}
 use Rattle.reader.specs.Walk.{leastPoint, visitOf}
 use Rattle.reader.proofs.TourLaws.{walk-means}
 use Rattle.reader.proofs.LeastLaws.{whole-walk}
-use Rattle.promise.specs.Demand.{shownBy, walkShowsAdditions, NewestOf, Shows, LooksUp, lookupSaysAdditions, SeeksLeast, seekFindsLeast}
+use Rattle.promise.specs.Demand.{shownBy, walkShowsAdditions, Gives, SeeksLeast, seekFindsLeast, LooksNewest, lookupFindsNewest, NewestOf, Shows, LooksUp, lookupSaysAdditions}
 use Rattle.promise.proofs.BuiltLaws.{finished-reads}
+
+-- an entry of the plain reading, its key laid over the buffer
+gives : (t : List ℕ) (x : Found) → List·Memᴰ x (plain t) → (k k′ : List ℕ) → k′ ≡ overlay (x .key) k → {e : Entry} → entryOf x ≡ e → Gives t k′ e x
+unfolding entryOf
+gives t x m k k′ b {e} is =
+    subst (λ (y : Entry). Gives t k′ y x) is (record { place = refl; key = overlay-front (x .key) k′ k b; value = sym (values-stand t x m) })
 
 -- ---- seek
 
 module _ (t : List ℕ) (q : Passed t) (p : Point) where
   by-seek : (o : Option Found) → seekOf t p ≡ o → (k : List ℕ) {r : Sought} {k′ : List ℕ} → r ≡ soughtOf (foundOr o) → k′ ≡ bufferAfter (foundOr o) k → SeeksLeast t p k r k′
-  unfolding soughtOf foundOr bufferAfter entryOf
+  unfolding soughtOf foundOr bufferAfter
   by-seek none is k {r} {k′} e b =
       record {
-        none = (λ _ x l. not-both (notBelow p x) (l .reaches) (seek-none-means t p .0 is x (l .stands)), λ _. e);
+        none = (λ _ x m n. not-both (notBelow p x) n (seek-none-means t p .0 is x m), λ _. e);
+        kept = λ _. b;
         entry = λ en g. let z : SoughtCase.None ≡ SoughtCase.Entry en = sym e ∙ g in apart cc;
+        answers = λ n g. let z : SoughtCase.None ≡ SoughtCase.Refused n = sym e ∙ g in apart cc;
       }
   by-seek (some x) is k {r} {k′} e b =
+      let l = seek-means t p q x .0 is in
       record {
-        none = (λ g. let z : SoughtCase.Entry (entryOf x) ≡ SoughtCase.None = sym e ∙ g in apart cc, λ f. absurd (f x (seek-means t p q x .0 is)));
-        entry = λ en g. let z : SoughtCase.Entry (entryOf x) ≡ SoughtCase.Entry en = sym e ∙ g in let w : entryOf x ≡ en = cc in (x, seek-means t p q x .0 is, w, ap (λ (y : Entry). take (y .«key_len») k′) (sym w) ∙ overlay-front (x .key) k′ k b);
+        none = (λ g. let z : SoughtCase.Entry (entryOf x) ≡ SoughtCase.None = sym e ∙ g in apart cc, λ f. absurd (f x (l .stands) (l .reaches)));
+        kept = λ g. let z : SoughtCase.Entry (entryOf x) ≡ SoughtCase.None = sym e ∙ g in apart cc;
+        entry = λ en g.
+            let z : SoughtCase.Entry (entryOf x) ≡ SoughtCase.Entry en = sym e ∙ g in
+            let w : entryOf x ≡ en = cc in
+            (x, l, gives t x (l .stands) k k′ b w);
+        answers = λ n g. let z : SoughtCase.Entry (entryOf x) ≡ SoughtCase.Refused n = sym e ∙ g in apart cc;
       }
 
 pub seek-finds-least : seekFindsLeast
@@ -56,16 +69,74 @@ seek-finds-least t q p f k l r k′ s =
 
 -- ---- lookup
 
-module _ (t : List ℕ) (q : Passed t) (xs : List Addition) (all : map additionOf (plain t) ≡ xs) (p : Point) where
+module _ (t : List ℕ) (q : Passed t) (p : Point) where
+  by-lookup : (o : Option Found) → lookupOf t p ≡ o → (k : List ℕ) {r : FoundEnum.Found} {k′ : List ℕ} → r ≡ lookedOf (byKind o) → k′ ≡ bufferAfter (byKind o) k → LooksNewest t p k r k′
+  unfolding byKind lookedOf bufferAfter
+  by-lookup none is k {r} {k′} e b =
+      record {
+        absent = (λ _. lookup-none-means t p .0 is, λ _. e);
+        kept = λ _. b;
+        entry = λ en g. let z : FoundCase.Absent ≡ FoundCase.Entry en = sym e ∙ g in apart cc;
+        gone = λ en g. let z : FoundCase.Absent ≡ FoundCase.Deleted en = sym e ∙ g in apart cc;
+        answers = λ n g. let z : FoundCase.Absent ≡ FoundCase.Refused n = sym e ∙ g in apart cc;
+      }
+  by-lookup (some x) is k {r} {k′} e b =
+      let n = lookup-means t p q x .0 is in
+      test (eqb (kindOf (x .key)) 0)
+      (λ z. gone-is n z (e ∙ ap lookedOf (kind-none x z)) (b ∙ ap (λ (a : Answer). bufferAfter a k) (kind-none x z)))
+      (λ z. entry-is n z (e ∙ ap lookedOf (kind-some x z)) (b ∙ ap (λ (a : Answer). bufferAfter a k) (kind-some x z)))
+    where
+      gone-is : Newest t p x → eqb (kindOf (x .key)) 0 ≡ true → r ≡ FoundCase.Deleted (entryOf x) → k′ ≡ overlay (x .key) k → LooksNewest t p k r k′
+      gone-is n z e b =
+          record {
+            absent = (λ g. let y : FoundCase.Deleted (entryOf x) ≡ FoundCase.Absent = sym e ∙ g in apart cc, λ f. absurd (f x (n .stands) (n .isWord) (n .notNewer)));
+            kept = λ g. let y : FoundCase.Deleted (entryOf x) ≡ FoundCase.Absent = sym e ∙ g in apart cc;
+            entry = λ en g. let y : FoundCase.Deleted (entryOf x) ≡ FoundCase.Entry en = sym e ∙ g in apart cc;
+            gone = λ en g.
+                let y : FoundCase.Deleted (entryOf x) ≡ FoundCase.Deleted en = sym e ∙ g in
+                let w : entryOf x ≡ en = cc in
+                (x, n, eqb-true (kindOf (x .key)) 0 z, gives t x (n .stands) k k′ b w);
+            answers = λ m g. let y : FoundCase.Deleted (entryOf x) ≡ FoundCase.Refused m = sym e ∙ g in apart cc;
+          }
+
+      entry-is : Newest t p x → eqb (kindOf (x .key)) 0 ≡ false → r ≡ FoundCase.Entry (entryOf x) → k′ ≡ overlay (x .key) k → LooksNewest t p k r k′
+      entry-is n z e b =
+          record {
+            absent = (λ g. let y : FoundCase.Entry (entryOf x) ≡ FoundCase.Absent = sym e ∙ g in apart cc, λ f. absurd (f x (n .stands) (n .isWord) (n .notNewer)));
+            kept = λ g. let y : FoundCase.Entry (entryOf x) ≡ FoundCase.Absent = sym e ∙ g in apart cc;
+            entry = λ en g.
+                let y : FoundCase.Entry (entryOf x) ≡ FoundCase.Entry en = sym e ∙ g in
+                let w : entryOf x ≡ en = cc in
+                (x, n, eqb-false (kindOf (x .key)) 0 z, gives t x (n .stands) k k′ b w);
+            gone = λ en g. let y : FoundCase.Entry (entryOf x) ≡ FoundCase.Deleted en = sym e ∙ g in apart cc;
+            answers = λ m g. let y : FoundCase.Entry (entryOf x) ≡ FoundCase.Refused m = sym e ∙ g in apart cc;
+          }
+
+pub lookup-finds-newest : lookupFindsNewest
+unfolding lookupSays
+lookup-finds-newest t q p f k l r k′ s =
+    let a-is : s .answer ≡ byKind (lookupOf t p) = s .is .table f l .passed q in
+    by-lookup t q p (lookupOf t p) refl k (s .shown ∙ ap lookedOf a-is) (s .is .buffer ∙ ap (λ (a : Answer). bufferAfter a k) a-is)
+
+-- ---- lookup in what was built
+
+module _ (t : List ℕ) (xs : List Addition) (all : map additionOf (plain t) ≡ xs) (p : Point) where
+  -- an addition was read from an entry
+  read-from : {a : Addition} → List·Memᴰ a xs → (x : Found) × List·Memᴰ x (plain t) × (a ≡ additionOf x)
+  read-from {a} m = mem-unmap additionOf (plain t) (subst (λ (l : List Addition). List·Memᴰ a l) (sym all) m)
+
+  added : (x : Found) → List·Memᴰ x (plain t) → List·Memᴰ (additionOf x) xs
+  added x m = subst (λ (l : List Addition). List·Memᴰ (additionOf x) l) all (Memᴰ·map additionOf m)
+
   -- of the newest entry: the newest addition
   newest-of : (x : Found) → Newest t p x → NewestOf xs p (additionOf x)
   unfolding additionOf
   newest-of x n =
       record {
-        stands = subst (λ (l : List Addition). List·Memᴰ (additionOf x) l) all (Memᴰ·map additionOf (n .stands));
+        stands = added x (n .stands);
         isWord = n .isWord;
         notNewer = n .notNewer;
-        newest = λ b m w l. go b (mem-unmap additionOf (plain t) (subst (λ (l : List Addition). List·Memᴰ b l) (sym all) m)) w l;
+        newest = λ b m w l. go b (read-from m) w l;
       }
     where
       go : (b : Addition) → (y : Found) × List·Memᴰ y (plain t) × (b ≡ additionOf y) → b .word ≡ p .word → b .edition ≤ p .edition → b .edition ≤ additionOf x .edition
@@ -74,66 +145,31 @@ module _ (t : List ℕ) (q : Passed t) (xs : List Addition) (all : map additionO
           subst (λ (c : Addition). c .edition ≤ additionOf x .edition) (sym e)
           (n .newest (r .0) (r .1) (ap (λ (c : Addition). c .word) (sym e) ∙ w) (subst (λ (c : Addition). c .edition ≤ p .edition) e l))
 
-  shows : (x : Found) → List·Memᴰ x (plain t) → (k k′ : List ℕ) → k′ ≡ overlay (x .key) k → Shows t k′ (entryOf x) (additionOf x)
-  unfolding additionOf entryOf
-  shows x m k k′ b =
-      let f = overlay-front (x .key) k′ k b in
-      record { value = sym (values-stand t x m); word = ap userOf f; edition = ap seqOf f; kind = ap kindOf f }
-
-  none-of : lookupOf t p ≡ none → (a : Addition) → List·Memᴰ a xs → a .word ≡ p .word → a .edition ≤ p .edition → ⊥
+  shows : (x : Found) {k : List ℕ} {e : Entry} → Gives t k e x → Shows t k e (additionOf x)
   unfolding additionOf
-  none-of e a m w l =
-      let r = mem-unmap additionOf (plain t) (subst (λ (l : List Addition). List·Memᴰ a l) (sym all) m) in
-      lookup-none-means t p .0 e (r .0) (r .1) (ap (λ (c : Addition). c .word) (sym (r .2)) ∙ w) (subst (λ (c : Addition). c .edition ≤ p .edition) (r .2) l)
+  shows x g = record { value = g .value; word = ap userOf (g .key); edition = ap seqOf (g .key); kind = ap kindOf (g .key) }
 
-  by-lookup : (o : Option Found) → lookupOf t p ≡ o → (k : List ℕ) {r : FoundEnum.Found} {k′ : List ℕ} → r ≡ lookedOf (byKind o) → k′ ≡ bufferAfter (byKind o) k → LooksUp t xs p k r k′
-  unfolding byKind lookedOf bufferAfter
-  by-lookup none is k {r} {k′} e b =
+  none-of : ((x : Found) → List·Memᴰ x (plain t) → userOf (x .key) ≡ p .word → seqOf (x .key) ≤ p .edition → ⊥) → (a : Addition) → List·Memᴰ a xs → a .word ≡ p .word → a .edition ≤ p .edition → ⊥
+  unfolding additionOf
+  none-of f a m w l =
+      let r = read-from m in
+      f (r .0) (r .1) (ap (λ (c : Addition). c .word) (sym (r .2)) ∙ w) (subst (λ (c : Addition). c .edition ≤ p .edition) (r .2) l)
+
+  looks-up : {k : List ℕ} {r : FoundEnum.Found} {k′ : List ℕ} → LooksNewest t p k r k′ → LooksUp t xs p k r k′
+  unfolding additionOf
+  looks-up n =
       record {
-        absent = (λ _. none-of is, λ _. e);
-        kept = λ _. b;
-        entry = λ en g. let z : FoundCase.Absent ≡ FoundCase.Entry en = sym e ∙ g in apart cc;
-        gone = λ en g. let z : FoundCase.Absent ≡ FoundCase.Deleted en = sym e ∙ g in apart cc;
+        absent = (λ e. none-of (n .absent .0 e), λ f. n .absent .1 (λ x m w l. f (additionOf x) (added x m) w l));
+        kept = n .kept;
+        entry = λ e g. let y = n .entry e g in (additionOf (y .0), newest-of (y .0) (y .1), y .2, shows (y .0) (y .3));
+        gone = λ e g. let y = n .gone e g in (additionOf (y .0), newest-of (y .0) (y .1), y .2, shows (y .0) (y .3));
+        answers = n .answers;
       }
-  by-lookup (some x) is k {r} {k′} e b =
-      let n = lookup-means t p q x .0 is in
-      test (eqb (kindOf (x .key)) 0)
-      (λ z. gone-is n z (e ∙ ap lookedOf (kind-none x z)) (b ∙ ap (λ (a : Answer). bufferAfter a k) (kind-none x z)))
-      (λ z. entry-is n z (e ∙ ap lookedOf (kind-some x z)) (b ∙ ap (λ (a : Answer). bufferAfter a k) (kind-some x z)))
-    where
-      there : Newest t p x → ((a : Addition) → List·Memᴰ a xs → a .word ≡ p .word → a .edition ≤ p .edition → ⊥) → ⊥
-      there n f = let w = newest-of x n in f (additionOf x) (w .stands) (w .isWord) (w .notNewer)
-
-      gone-is : Newest t p x → eqb (kindOf (x .key)) 0 ≡ true → r ≡ FoundCase.Deleted (entryOf x) → k′ ≡ overlay (x .key) k → LooksUp t xs p k r k′
-      gone-is n z e b =
-          record {
-            absent = (λ g. let y : FoundCase.Deleted (entryOf x) ≡ FoundCase.Absent = sym e ∙ g in apart cc, λ f. absurd (there n f));
-            kept = λ g. let y : FoundCase.Deleted (entryOf x) ≡ FoundCase.Absent = sym e ∙ g in apart cc;
-            entry = λ en g. let y : FoundCase.Deleted (entryOf x) ≡ FoundCase.Entry en = sym e ∙ g in apart cc;
-            gone = λ en g.
-                let y : FoundCase.Deleted (entryOf x) ≡ FoundCase.Deleted en = sym e ∙ g in
-                let w : entryOf x ≡ en = cc in
-                (additionOf x, newest-of x n, unfold additionOf in eqb-true (kindOf (x .key)) 0 z, subst (λ (m : Entry). Shows t k′ m (additionOf x)) w (shows x (n .stands) k k′ b));
-          }
-
-      entry-is : Newest t p x → eqb (kindOf (x .key)) 0 ≡ false → r ≡ FoundCase.Entry (entryOf x) → k′ ≡ overlay (x .key) k → LooksUp t xs p k r k′
-      entry-is n z e b =
-          record {
-            absent = (λ g. let y : FoundCase.Entry (entryOf x) ≡ FoundCase.Absent = sym e ∙ g in apart cc, λ f. absurd (there n f));
-            kept = λ g. let y : FoundCase.Entry (entryOf x) ≡ FoundCase.Absent = sym e ∙ g in apart cc;
-            entry = λ en g.
-                let y : FoundCase.Entry (entryOf x) ≡ FoundCase.Entry en = sym e ∙ g in
-                let w : entryOf x ≡ en = cc in
-                (additionOf x, newest-of x n, unfold additionOf in eqb-false (kindOf (x .key)) 0 z, subst (λ (m : Entry). Shows t k′ m (additionOf x)) w (shows x (n .stands) k k′ b));
-            gone = λ en g. let y : FoundCase.Entry (entryOf x) ≡ FoundCase.Deleted en = sym e ∙ g in apart cc;
-          }
 
 pub lookup-says-additions : lookupSaysAdditions
-unfolding lookupSays
 lookup-says-additions o xs t w p f k l r k′ s =
     let d = finished-reads o xs t w in
-    let a-is : s .answer ≡ byKind (lookupOf t p) = s .is .table f l .passed (d .0) in
-    by-lookup t (d .0) xs (d .1) p (lookupOf t p) refl k (s .shown ∙ ap lookedOf a-is) (s .is .buffer ∙ ap (λ (a : Answer). bufferAfter a k) a-is)
+    looks-up t xs (d .1) p (lookup-finds-newest t (d .0) p f k l r k′ s)
 
 -- ---- walk
 

@@ -1,16 +1,18 @@
--- The third demand, of the calls' contracts alone: what a builder finishes, and what a lookup and a seek answer.
+-- The third demand, of the calls' contracts alone: what a builder finishes, what a walk over it shows, and what a seek and a lookup answer.
 use Prim.Native.Nat.{ℕ, _≤_, _<_}
 use mathlib.Core.Path.{_≡_}
 use mathlib.Core.List.{List, [], _∷_, _++_, map, List·Memᴰ}
 use mathlib.Core.Bool.{true}
 use mathlib.Core.Logic.{_↔_}
+use lib.Dec.{T}
 use lib.ListN.{length, take, getD}
 use Rattle.codec.specs.Bytes.{part}
 use Rattle.keys.specs.Order.{Point, userOf, seqOf, kindOf}
 use Rattle.table.specs.Options.{Addition}
-use Rattle.table.specs.Runs.{Runs}
+use Rattle.table.specs.Build.{begin, acceptAll}
+use Rattle.table.specs.Runs.{Runs, roomOf}
 use Rattle.table.specs.Table.{plain, Found}
-use Rattle.table.specs.Promise.{Passed, Least, additionOf}
+use Rattle.table.specs.Promise.{Passed, notBelow, Least, Newest, additionOf}
 use Rattle.table.specs.Reads.{pointFits}
 use Rattle.builder.specs.declared.table_builder.Answer.the-variants as AnswerCase
 use Rattle.builder.specs.declared.table_builder.Options as Given
@@ -19,7 +21,8 @@ use Rattle.builder.specs.declared.table_builder.Started.{Started}
 use Rattle.builder.specs.declared.table_builder.Added.{Added}
 use Rattle.builder.specs.declared.table_builder.Finished.{Finished}
 use Rattle.builder.specs.declared.table_builder.Outcome.the-variants as OutcomeCase
-use Rattle.builder.specs.Answers.{StartedIs, AddedIs, FinishedIs}
+use Rattle.builder.specs.State.{optionsOf}
+use Rattle.builder.specs.Answers.{answerOf, StartedIs, AddedIs, FinishedIs}
 use Rattle.reader.specs.declared.table_reader.Entry.{Entry}
 use Rattle.reader.specs.declared.table_reader.Found as FoundEnum
 use Rattle.reader.specs.declared.table_reader.Found.the-variants as FoundCase
@@ -37,6 +40,11 @@ pub data Calls (o : Given.Options) : List Addition → Builder → Runs → Type
       → Calls o (xs ++ (a ∷ [])) (x .state) r′
   refuse : {xs : List Addition} {s : Builder} {r r′ : Runs} {a : Addition} {x : Added} {n : ℕ} → Calls o xs s r → AddedIs s r r′ a x → x .answer ≡ AnswerCase.Refused n
       → Calls o xs (x .state) r′
+
+-- one more addition is answered as the definitions say of all of them: accepted, or refused by its number
+abbrev pub addAnswers : Type 0
+addAnswers = (o : Given.Options) (xs : List Addition) (s : Builder) (r r′ : Runs) (a : Addition) (x : Added) → Calls o xs s r → AddedIs s r r′ a x
+    → x .answer ≡ answerOf (acceptAll (optionsOf o) (roomOf (length (r .out))) begin (xs ++ (a ∷ [])))
 
 -- a finish after them, and the table that it leaves: the first bytes of the output
 pub record Finishes (o : Given.Options) (xs : List Addition) (t : List ℕ) : Type 0 where
@@ -76,6 +84,39 @@ abbrev pub walkShowsAdditions : Type 0
 walkShowsAdditions = (o : Given.Options) (xs : List Addition) (t : List ℕ) → Finishes o xs t → ((i : ℕ) → getD t i 0 < 256) → (k : List ℕ) → 1032 ≤ length k
     → (r : Sought) (k′ : List ℕ) → Seeks t leastPoint k r k′ → (vs : List Visit) → Walk t r k′ vs → map (shownBy t) vs ≡ xs
 
+-- ---- reading any table that passes
+
+-- an entry of the plain reading as a call gives it: its place, its key at the front of the key buffer, and its value, which lies in the table
+pub record Gives (t k : List ℕ) (e : Entry) (x : Found) : Type 0 where
+  pub place : entryOf x ≡ e
+  pub key : take (e .«key_len») k ≡ x .key
+  pub value : part t (e .«value_at») (e .«value_len») ≡ x .value
+
+-- a seek finds the least entry not below the target, none exactly if there is none, and then the key buffer is as it was; it refuses nothing
+pub record SeeksLeast (t : List ℕ) (p : Point) (k : List ℕ) (r : Sought) (k′ : List ℕ) : Type 0 where
+  pub none : (r ≡ SoughtCase.None) ↔ ((x : Found) → List·Memᴰ x (plain t) → T (notBelow p x) → ⊥)
+  pub kept : r ≡ SoughtCase.None → k′ ≡ k
+  pub entry : (e : Entry) → r ≡ SoughtCase.Entry e → (x : Found) × Least t p x × Gives t k′ e x
+  pub answers : (n : ℕ) → r ≡ SoughtCase.Refused n → ⊥
+
+-- a lookup finds the word's newest entry no newer than the edition, a deletion as such, absent exactly if none stands there; it refuses nothing
+pub record LooksNewest (t : List ℕ) (p : Point) (k : List ℕ) (r : FoundEnum.Found) (k′ : List ℕ) : Type 0 where
+  pub absent : (r ≡ FoundCase.Absent) ↔ ((x : Found) → List·Memᴰ x (plain t) → userOf (x .key) ≡ p .word → seqOf (x .key) ≤ p .edition → ⊥)
+  pub kept : r ≡ FoundCase.Absent → k′ ≡ k
+  pub entry : (e : Entry) → r ≡ FoundCase.Entry e → (x : Found) × Newest t p x × (kindOf (x .key) ≡ 0 → ⊥) × Gives t k′ e x
+  pub gone : (e : Entry) → r ≡ FoundCase.Deleted e → (x : Found) × Newest t p x × (kindOf (x .key) ≡ 0) × Gives t k′ e x
+  pub answers : (n : ℕ) → r ≡ FoundCase.Refused n → ⊥
+
+-- of every table that passes, a word of 1 to 1,024 bytes, an edition below 2 ^ 56 and a key buffer of 1,032 bytes or more
+abbrev pub seekFindsLeast : Type 0
+seekFindsLeast = (t : List ℕ) → Passed t → (p : Point) → pointFits p ≡ true → (k : List ℕ) → 1032 ≤ length k → (r : Sought) (k′ : List ℕ) → Seeks t p k r k′
+    → SeeksLeast t p k r k′
+
+-- and a lookup likewise
+abbrev pub lookupFindsNewest : Type 0
+lookupFindsNewest = (t : List ℕ) → Passed t → (p : Point) → pointFits p ≡ true → (k : List ℕ) → 1032 ≤ length k → (r : FoundEnum.Found) (k′ : List ℕ)
+    → Looks t p k r k′ → LooksNewest t p k r k′
+
 -- ---- looking words up in what was built
 
 -- the newest addition of a word that is no newer than an edition
@@ -98,20 +139,9 @@ pub record LooksUp (t : List ℕ) (xs : List Addition) (p : Point) (k : List ℕ
   pub kept : r ≡ FoundCase.Absent → k′ ≡ k
   pub entry : (e : Entry) → r ≡ FoundCase.Entry e → (a : Addition) × NewestOf xs p a × (a .kind ≡ 0 → ⊥) × Shows t k′ e a
   pub gone : (e : Entry) → r ≡ FoundCase.Deleted e → (a : Addition) × NewestOf xs p a × (a .kind ≡ 0) × Shows t k′ e a
+  pub answers : (n : ℕ) → r ≡ FoundCase.Refused n → ⊥
 
 -- of every finished table, a word of 1 to 1,024 bytes, an edition below 2 ^ 56 and a key buffer of 1,032 bytes or more
 abbrev pub lookupSaysAdditions : Type 0
 lookupSaysAdditions = (o : Given.Options) (xs : List Addition) (t : List ℕ) → Finishes o xs t → (p : Point) → pointFits p ≡ true → (k : List ℕ) → 1032 ≤ length k
     → (r : FoundEnum.Found) (k′ : List ℕ) → Looks t p k r k′ → LooksUp t xs p k r k′
-
--- ---- seeking in any table that passes
-
--- a seek finds the least entry not below the target, none exactly if there is none
-pub record SeeksLeast (t : List ℕ) (p : Point) (k : List ℕ) (r : Sought) (k′ : List ℕ) : Type 0 where
-  pub none : (r ≡ SoughtCase.None) ↔ ((x : Found) → Least t p x → ⊥)
-  pub entry : (e : Entry) → r ≡ SoughtCase.Entry e → (x : Found) × Least t p x × (entryOf x ≡ e) × (take (e .«key_len») k′ ≡ x .key)
-
--- of every table that passes
-abbrev pub seekFindsLeast : Type 0
-seekFindsLeast = (t : List ℕ) → Passed t → (p : Point) → pointFits p ≡ true → (k : List ℕ) → 1032 ≤ length k → (r : Sought) (k′ : List ℕ) → Seeks t p k r k′
-    → SeeksLeast t p k r k′

@@ -77,8 +77,10 @@ module _ (t : List ℕ) (passed : Passed t) where
   tour : (bs cs : List Found) → plain t ≡ bs ++ cs → {r : Sought} {k : List ℕ} {vs : List Visit} → Walk t r k vs → Shown t cs r k → vs ≡ map visitOf cs
   unfolding foundOr soughtOf entryOf visitOf
   tour bs [] e Walk.done s = refl
+  tour bs [] e Walk.stuck s = refl
   tour bs [] e (Walk.more w ws) s = let z = s .answer in apart cc
   tour bs (c ∷ cs) e Walk.done s = let z = s .answer in apart cc
+  tour bs (c ∷ cs) e Walk.stuck s = let z = s .answer in apart cc
   tour bs (c ∷ cs) e (Walk.more {e = en} {k = k} {k′ = k′} {r = r} {vs = vs} w ws) s =
       let z : SoughtCase.Entry en ≡ SoughtCase.Entry (entryOf c) = s .answer in
       let en-is : en ≡ entryOf c = cc in

@@ -22,9 +22,10 @@ pub record Visit : Type 0 where
 unfoldable pub visitOf : Found → Visit
 visitOf x = record { entry = entryOf x; key = x .key }
 
--- steps from an answer and a key buffer on, until there is none, and what they show
+-- steps from an answer and a key buffer on, until there is none or one is refused, and what they show
 pub data Walk (t : List ℕ) : Sought → List ℕ → List Visit → Type 0 where
   done : {k : List ℕ} → Walk t SoughtCase.None k []
+  stuck : {n : ℕ} {k : List ℕ} → Walk t (SoughtCase.Refused n) k []
   more : {e : Entry} {k k′ : List ℕ} {r : Sought} {vs : List Visit} → Steps t (e .place .index) (e .place .entry) k r k′ → Walk t r k′ vs
       → Walk t (SoughtCase.Entry e) k (record { entry = e; key = take (e .«key_len») k } ∷ vs)
 
@@ -33,7 +34,7 @@ unfoldable pub onward : Point → List Found → List Found
 onward p [] = []
 onward p (x ∷ xs) = elim (notBelow p x) [ true ↦ x ∷ xs | false ↦ onward p xs ]
 
--- of a passed table: a walk from a seek on shows the plain reading from the point on, in order
+-- of a passed table: a walk from a seek on shows the plain reading from the point on, in order; so no step of it is refused before the end
 abbrev pub walkMeans : Type 0
 walkMeans = (t : List ℕ) → Passed t → (p : Point) (k : List ℕ) → pointFits p ≡ true → 1032 ≤ length k
     → (r : Sought) (k′ : List ℕ) → Seeks t p k r k′ → (vs : List Visit) → Walk t r k′ vs → vs ≡ map visitOf (onward p (plain t))

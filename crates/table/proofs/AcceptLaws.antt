@@ -20,7 +20,7 @@ use Rattle.codec.specs.Limits.{within}
 use Rattle.blocks.specs.Formed.{dataBlock, entryFits, all, enough, rises}
 use Rattle.blocks.proofs.FormedLaws.{all-more, rises-more}
 use Rattle.blocks.proofs.BuildLaws.{none-long}
-use Rattle.table.specs.Checked.{pass, _>>=_}
+use Rattle.table.specs.Checked.{Checked, pass, refuse, _>>=_}
 use Rattle.table.specs.Options.{Options, filteringFits, Addition, additionFits, optionsFit, tableLimit}
 use Rattle.table.specs.Table
 use Rattle.table.specs.Table.{Edge}
@@ -325,11 +325,19 @@ module _ (o : Options) (room limit : ℕ) (room-for-empty : 8 ≤ o .blockSize) 
       rw append-assoc at (accepted d (done ++ (a ∷ [])) more c here size e1)
 
 -- one addition more
+pub accept-last : (o : Options) (room : ℕ) (b : Building) (more : List Addition) (a : Addition) (c : Building) → acceptAll o room b more ≡ pass c
+    → acceptAll o room b (more ++ (a ∷ [])) ≡ accept o room c a
+unfolding acceptAll _>>=_
+accept-last o room b [] a c e = let q : b ≡ c = pass-same e in rw q (go (accept o room c a))
+  where
+    go : (m : Checked Building) → m >>= (λ d. acceptAll o room d []) ≡ m
+    go (pass d) = refl
+    go (refuse n) = refl
+accept-last o room b (x ∷ more) a c e = passing (accept o room b x) _ e λ k t e. rw t (accept-last o room k more a c e)
+
 pub accept-more : (o : Options) (room : ℕ) (b : Building) (more : List Addition) (a : Addition) (c d : Building) → acceptAll o room b more ≡ pass c → accept o room c a ≡ pass d
     → acceptAll o room b (more ++ (a ∷ [])) ≡ pass d
-unfolding acceptAll _>>=_
-accept-more o room b [] a c d e f = let q : b ≡ c = pass-same e in rw (q, f)
-accept-more o room b (x ∷ more) a c d e f = passing (accept o room b x) _ e λ k t e. rw t (accept-more o room k more a c d e f)
+accept-more o room b more a c d e f = accept-last o room b more a c e ∙ f
 
 -- ---- the promise
 pub begin-is : (o : Options) → finish o begin ≡ table o []
