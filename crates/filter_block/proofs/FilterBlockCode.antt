@@ -3,6 +3,7 @@ use Prim.Native.Nat.{ℕ, suc, _+_, _*_, _-_, _/_, _%_, _^_, _≤_, _<_}
 use mathlib.Core.Path.{_≡_, sym}
 use mathlib.Core.List.{List, _∷_}
 use mathlib.Core.Bool.{true, false, and-false, or-true}
+use mathlib.Core.Logic.{_⊎_, inl, inr}
 use native.Mathlib.Omega.{arith}
 use lib.Dec.{leb}
 use lib.ListN.{length, take, drop, getD}
@@ -35,13 +36,10 @@ module _ (s : List ℕ) (offset h : ℕ) where
       may-count l = sym (may-beyond s offset h (rw (← a, ← e) l))
 
       module _ (from to : ℕ) (p : from ≡ numberOf (part s (array + 4 * i) 4)) (q : to ≡ numberOf (part s (array + 4 * (i + 1)) 4)) where
-        pub may-fall : to < from → true ≡ mayMatch s offset h
+        pub may-wrong : (to < from) ⊎ (array < to) → true ≡ mayMatch s offset h
         unfolding mayMatch baseOf arrayOf countOf startOf
-        may-fall l = sym (simp (← a, ← e, ← p, ← q, lt-ltb to from l, or-true))
-
-        pub may-out : array < to → true ≡ mayMatch s offset h
-        unfolding mayMatch baseOf arrayOf countOf startOf
-        may-out l = sym (simp (← a, ← e, ← p, ← q, lt-ltb array to l, or-true))
+        may-wrong (inl l) = sym (simp (← a, ← e, ← p, ← q, lt-ltb to from l, or-true))
+        may-wrong (inr l) = sym (simp (← a, ← e, ← p, ← q, lt-ltb array to l, or-true))
 
         pub may-asked : 5 ≤ length s → getD s (length s - 1) 0 ≤ 31 → array ≤ length s - 5 → i < (length s - 5 - array) / 4 → from ≤ to → to ≤ array
             → filterMay (take (to - from) (drop from s)) h ≡ mayMatch s offset h

@@ -2,7 +2,7 @@
 use Prim.Native.Nat.{ℕ, suc, _+_, _*_, _-_, _/_, _%_, _^_, _≤_, _<_, min, max}
 use mathlib.Core.Path.{_≡_, refl, sym, ap, _∙_}
 use mathlib.Core.List.{List, [], _∷_, _++_}
-use mathlib.Core.Bool.{true, false, or-true}
+use mathlib.Core.Bool.{Bool, true, _&&_, or-true}
 use native.Mathlib.Nat.{add-mul, mul-assoc, mul-zero, mul-le-mul-right, le-div-iff-mul-le, div-lt-iff-lt-mul, mod-eq-of-lt, mod-lt, sub-zero}
 use native.Mathlib.Numerals.{add-one}
 use native.Mathlib.Omega.{arith}
@@ -134,13 +134,9 @@ module _ (s : List ℕ) (k i m x d : ℕ) where
   unfolding raiseAll
   raise-none h = rw (no-places k i m x d h)
 
-  pub raised-more : i < k → eqb (bit s (x % m)) 1 ≡ true → allRaised s (places (k - (i + 1)) m ((x + d) % 2 ^ 32) d) ≡ allRaised s (places (k - i) m x d)
+  pub raised-next : (r : Bool) → i < k → eqb (bit s (x % m)) 1 ≡ r → r && allRaised s (places (k - (i + 1)) m ((x + d) % 2 ^ 32) d) ≡ allRaised s (places (k - i) m x d)
   unfolding allRaised
-  raised-more h t = rw (more-places k i m x d h, t)
-
-  pub raised-not : i < k → eqb (bit s (x % m)) 1 ≡ false → false ≡ allRaised s (places (k - i) m x d)
-  unfolding allRaised
-  raised-not h t = rw (more-places k i m x d h, t)
+  raised-next r h t = rw (more-places k i m x d h, t)
 
   pub raised-none : k ≤ i → true ≡ allRaised s (places (k - i) m x d)
   unfolding allRaised

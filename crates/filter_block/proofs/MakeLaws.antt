@@ -62,7 +62,7 @@ capped a x b h =
 -- ---- what making filters answers, by what fits
 
 module _ (c : Filtering) (gs : List (List ℕ)) (bytes made : ℕ) (f o : List ℕ) where
-  refused : roomFor c bytes gs f o made ≡ false → MadeFilters c gs bytes made NoRoom f f o o
+  pub refused : roomFor c bytes gs f o made ≡ false → MadeFilters c gs bytes made NoRoom f f o o
   unfolding madeAnswer
   refused e = record { said = rw e; filters = rw e; offsets = rw e }
 
@@ -107,12 +107,9 @@ module _ (c : Filtering) (hs : List ℕ) (bytes made n : ℕ) (f o : List ℕ) w
   gs = groupsUpTo made n hs
 
   module _ (h : n ≤ made) (t : Bool) (said : t ≡ fitting (length f) bytes 0 (length o) made 0) where
-    room-none : roomFor c bytes gs f o made ≡ t
+    pub room-none : roomFor c bytes gs f o made ≡ t
     unfolding roomFor room madeBytes starts
     room-none = rw (groups-none made n hs h) (sym said)
-
-    pub none-refused : t ≡ false → MadeFilters c gs bytes made NoRoom f f o o
-    none-refused e = refused c gs bytes made f o (room-none ∙ e)
 
     pub none-made : t ≡ true → MadeFilters c gs bytes made (Filters bytes made) f f o o
     unfolding madeBytes starts
@@ -126,7 +123,7 @@ module _ (c : Filtering) (hs : List ℕ) (bytes made n : ℕ) (f o : List ℕ) w
     abbrev first : List (List ℕ)
     first = hs ∷ replicate (n - made - 1) []
 
-    room-some : roomFor c bytes gs f o made ≡ t
+    pub room-some : roomFor c bytes gs f o made ≡ t
     unfolding roomFor room
     room-some =
         let x = filterBytesOf c (length hs) in
@@ -134,9 +131,6 @@ module _ (c : Filtering) (hs : List ℕ) (bytes made n : ℕ) (f o : List ℕ) w
         sym
         (said
         ∙ rw (groups-some made n hs h, k, made-first c hs (n - made - 1), filter-size c hs, e, capped bytes x (length f) (omega arith), capped bytes x (2 ^ 32 - 1) (omega arith)))
-
-    pub some-refused : t ≡ false → MadeFilters c gs bytes made NoRoom f f o o
-    some-refused q = refused c gs bytes made f o (room-some ∙ q)
 
     pub some-made : (f′ o′ : List ℕ) → t ≡ true
         → f′ ≡ put f bytes (filterFor c hs) → o′ ≡ sets o made (bytes ∷ replicate (n - made - 1) (bytes + more))

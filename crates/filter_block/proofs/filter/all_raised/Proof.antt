@@ -1,5 +1,6 @@
 -- `filter_block::filter::all_raised` meets its contract. The invariant: the places to go decide.
 use mathlib.Core.Path.{_≡_, sym, ap, _∙_}
+use mathlib.Core.Bool.{true, false}
 use Prim.Native.Nat.{ℕ, _+_, _*_, _-_, _^_, _≤_, _<_}
 use native.Mathlib.Omega.{arith}
 use lib.Dec.{eqb}
@@ -7,7 +8,7 @@ use lib.ListN.{length}
 use borrow.Author.Needs.{needs}
 use borrow.Author.Tests.{not-true, not-false}
 use Rattle.filters.specs.Filter.{places, placesOf, bit, allRaised}
-use Rattle.filter_block.proofs.FilterCode.{place-is, place-in, places-start, raised-more, raised-not, raised-none}
+use Rattle.filter_block.proofs.FilterCode.{place-is, place-in, places-start, raised-next, raised-none}
 use Rattle.filter_block.proofs.filter.all_raised.Statement.{statement}
 use Rattle.filter_block.proofs.filter.all_raised.Tie as tie
 
@@ -47,7 +48,7 @@ returns c =
     let m = 8 * length s in
     let p = place-is m _ (l .x) (c .before .before .before .before .before .span .ensures) (l .inv .1) in
     let t = ap (λ (q : ℕ). eqb (bit s q) 1) (sym p) ∙ sym (c .before .is-raised .ensures) ∙ not-true _ (c .if1 .taken) in
-    raised-not s (a .k) (l .i) m (l .x) _ (omega arith) t ∙ l .inv .2
+    raised-next s (a .k) (l .i) m (l .x) _ false (omega arith) t ∙ l .inv .2
 
 wrapping-add-u32-requires : tie.Need-wrapping-add-u32-requires Inv-loop μ-loop
 wrapping-add-u32-requires c κs = search needs
@@ -69,7 +70,7 @@ loop-again c =
     let t = ap (λ (q : ℕ). eqb (bit s q) 1) (sym p) ∙ sym (c .before .before .is-raised .ensures) ∙ not-false _ (c .before .if1 .left) in (
       omega arith,
       omega arith,
-      ap (λ (x : ℕ). allRaised s (places (a .k - (l .i + 1)) m x d)) (c .wrapping-add-u32 .ensures) ∙ raised-more s (a .k) (l .i) m (l .x) d (omega arith) t ∙ l .inv .2,
+      ap (λ (x : ℕ). allRaised s (places (a .k - (l .i + 1)) m x d)) (c .wrapping-add-u32 .ensures) ∙ raised-next s (a .k) (l .i) m (l .x) d true (omega arith) t ∙ l .inv .2,
     )
 
 returns-2 : tie.Need-returns-2 Inv-loop μ-loop

@@ -1,11 +1,12 @@
 -- `filter_block::filter_block::make_filters` meets its contract.
 use Prim.Native.Nat.{_-_}
+use mathlib.Core.Path.{_∙_}
 use native.Mathlib.Omega.{arith}
 use lib.ListN.{length}
 use borrow.Author.Needs.{needs}
 use borrow.Author.Tests.{not-true, not-false}
 use Rattle.filter_block.specs.Choice.{choiceOf}
-use Rattle.filter_block.proofs.MakeLaws.{Fitting, fits-yes, none-refused, none-made, some-refused, some-made}
+use Rattle.filter_block.proofs.MakeLaws.{Fitting, fits-yes, refused, room-none, none-made, room-some, some-made}
 use Rattle.filter_block.proofs.filter_block.make_filters.Statement.{statement}
 use Rattle.filter_block.proofs.filter_block.make_filters.Tie as tie
 
@@ -16,7 +17,7 @@ returns : tie.Need-returns
 returns c = let a = c .before .before .before .before .before .before .args in none-made (choiceOf (a .choice)) (a .hashes .now) (a .bytes) (a .made) (a .n) (a .filters .now) (a .offsets .now) (c .before .before .if1 .taken) _ (c .before .fits2 .ensures) (c .if2 .taken)
 
 returns-2 : tie.Need-returns-2
-returns-2 c = let a = c .before .before .before .before .before .before .args in none-refused (choiceOf (a .choice)) (a .hashes .now) (a .bytes) (a .made) (a .n) (a .filters .now) (a .offsets .now) (c .before .before .if1 .taken) _ (c .before .fits2 .ensures) (c .if2 .left)
+returns-2 c = let a = c .before .before .before .before .before .before .args in refused _ _ _ _ _ _ (room-none (choiceOf (a .choice)) (a .hashes .now) (a .bytes) (a .made) (a .n) (a .filters .now) (a .offsets .now) (c .before .before .if1 .taken) _ (c .before .fits2 .ensures) ∙ c .if2 .left)
 
 filter-bytes-requires : tie.Need-filter-bytes-requires
 filter-bytes-requires c κs = search needs
@@ -28,7 +29,7 @@ fits-requires-2 : tie.Need-fits-requires-2
 fits-requires-2 c κs = search needs
 
 returns-3 : tie.Need-returns-3
-returns-3 c = let a = c .before .before .before .before .before .before .before .args in some-refused (choiceOf (a .choice)) (a .hashes .now) (a .bytes) (a .made) (a .n) (a .filters .now) (a .offsets .now) (c .before .before .before .if1 .left) (omega arith) _ (c .before .before .filter-bytes .ensures) _ (c .before .fits3 .ensures) (not-true _ (c .if3 .taken))
+returns-3 c = let a = c .before .before .before .before .before .before .before .args in refused _ _ _ _ _ _ (room-some (choiceOf (a .choice)) (a .hashes .now) (a .bytes) (a .made) (a .n) (a .filters .now) (a .offsets .now) (c .before .before .before .if1 .left) (omega arith) _ (c .before .before .filter-bytes .ensures) _ (c .before .fits3 .ensures) ∙ not-true _ (c .if3 .taken))
 
 -- once it was found that all fits
 fitted : (c : tie.Else3)

@@ -1,7 +1,8 @@
 -- `filter_block::filter_block::may_match` meets its contract.
 use mathlib.Core.Path.{refl, _∙_}
+use mathlib.Core.Logic.{inl, inr}
 use borrow.Author.Needs.{needs}
-use Rattle.filter_block.proofs.FilterBlockCode.{may-short, may-base, may-array, may-count, may-fall, may-out, may-asked}
+use Rattle.filter_block.proofs.FilterBlockCode.{may-short, may-base, may-array, may-count, may-wrong, may-asked}
 use Rattle.filter_block.proofs.filter_block.may_match.Statement.{statement}
 use Rattle.filter_block.proofs.filter_block.may_match.Tie as tie
 
@@ -60,10 +61,10 @@ number-requires-3 : tie.Need-number-requires-3
 number-requires-3 c κs = search needs
 
 returns-5 : tie.Need-returns-5
-returns-5 c = may-fall _ _ _ _ (c .before .before .before .before .before .number .ensures) _ refl _ _ (c .before .before .number2 .ensures) (c .before .number3 .ensures) (c .if5 .taken)
+returns-5 c = may-wrong _ _ _ _ (c .before .before .before .before .before .number .ensures) _ refl _ _ (c .before .before .number2 .ensures) (c .before .number3 .ensures) (inl (c .if5 .taken))
 
 returns-6 : tie.Need-returns-6
-returns-6 c = may-out _ _ _ _ (c .before .before .before .before .before .before .number .ensures) _ refl _ _ (c .before .before .before .number2 .ensures) (c .before .before .number3 .ensures) (c .if6 .taken)
+returns-6 c = may-wrong _ _ _ _ (c .before .before .before .before .before .before .number .ensures) _ refl _ _ (c .before .before .before .number2 .ensures) (c .before .before .number3 .ensures) (inr (c .if6 .taken))
 
 part-key-may-match-start : tie.Need-part-key-may-match-start
 part-key-may-match-start c = search needs
