@@ -7,11 +7,11 @@ use native.Mathlib.Omega.{arith}
 use lib.Dec.{leb, ltb, eqb}
 use lib.ListN.{length, take, drop, set, length-append, length-take, length-drop}
 use lib.Seq.{take-all}
-use borrow.Author.Tests.{lt-ltb, le-ltb, le-leb, lt-leb, eq-eqb, ne-eqb, leb-true, ltb-true}
+use borrow.Author.Tests.{lt-ltb, le-leb, lt-leb, eq-eqb, ne-eqb, leb-true, ltb-true}
 use Rattle.codec.specs.Bytes.{bytesOf, fours, common}
 use Rattle.codec.specs.Put.{room, put, Wrote}
 use Rattle.codec.specs.declared.put.Written.{Written}
-use Rattle.codec.proofs.Prelude.{test, split, both}
+use Rattle.codec.proofs.Prelude.{test, split, both, apart}
 use Rattle.codec.proofs.BytesLaws.{bytes-length, fours-length, part-rest}
 use Rattle.codec.proofs.PutLaws.{put-sets, put-full, put-nil}
 use Rattle.block_builder.specs.declared.block_builder.BlockBuilder.{BlockBuilder}
@@ -54,18 +54,15 @@ pub fits-all : (c : BlockCount) → c .bytes < 2 ^ 64 → c .restarts < 2 ^ 64 �
 unfolding countsFit
 fits-all c p q r = rw (lt-ltb (c .bytes) (2 ^ 64) p, lt-ltb (c .restarts) (2 ^ 64) q) (lt-ltb (c .since) (2 ^ 64) r)
 
-over-bytes : (c : BlockCount) → 2 ^ 64 ≤ c .bytes → countsFit c ≡ false
+fits-not : (c : BlockCount) → (c .bytes < 2 ^ 64 → c .restarts < 2 ^ 64 → c .since < 2 ^ 64 → ⊥) → countsFit c ≡ false
 unfolding countsFit
-over-bytes c h = rw (le-ltb (c .bytes) (2 ^ 64) h)
-
-over-restarts : (c : BlockCount) → 2 ^ 64 ≤ c .restarts → countsFit c ≡ false
-unfolding countsFit
-over-restarts c h = rw (le-ltb (c .restarts) (2 ^ 64) h) (and-false (ltb (c .bytes) (2 ^ 64)))
-
-over-since : (c : BlockCount) → 2 ^ 64 ≤ c .since → countsFit c ≡ false
-unfolding countsFit
-over-since c h =
-    rw (le-ltb (c .since) (2 ^ 64) h, and-false (ltb (c .restarts) (2 ^ 64))) (and-false (ltb (c .bytes) (2 ^ 64)))
+fits-not c h =
+    test (countsFit c)
+    (λ t.
+    let p = both (ltb (c .bytes) (2 ^ 64)) _ t in
+    let q = both (ltb (c .restarts) (2 ^ 64)) _ (p .1) in
+    absurd (h (ltb-true _ _ (p .0)) (ltb-true _ _ (q .0)) (ltb-true _ _ (q .1))))
+    (λ f. f)
 
 module _ (i : ℕ) (b : BlockCount) (key : List ℕ) (value : ℕ) where
   at-restart : b .since ≡ i → (countEntry i b key value .restarts ≡ suc (b .restarts)) × (countEntry i b key value .since ≡ 1)
@@ -85,13 +82,13 @@ module _ (i : ℕ) (b : BlockCount) (key : List ℕ) (value : ℕ) where
   plan-long h = rw (lt-leb (length key) 1032 h)
 
   pub plan-large : 2 ^ 64 ≤ b .bytes + entrySize (sharing i (b .since) (b .last) key) (length key) value → Full ≡ planOf i b key value
-  plan-large h = plan-full (over-bytes (countEntry i b key value) (unfold countEntry in h))
+  plan-large h = plan-full (fits-not (countEntry i b key value) (unfold countEntry in λ p q r. omega arith))
 
   pub plan-restarts : b .since ≡ i → 2 ^ 64 ≤ suc (b .restarts) → Full ≡ planOf i b key value
-  plan-restarts e h = plan-full (over-restarts (countEntry i b key value) (rw (at-restart e .0) h))
+  plan-restarts e h = plan-full (fits-not (countEntry i b key value) (λ p q r. omega (arith, at-restart e .0)))
 
   pub plan-since : (b .since ≡ i → ⊥) → 2 ^ 64 ≤ suc (b .since) → Full ≡ planOf i b key value
-  plan-since e h = plan-full (over-since (countEntry i b key value) (rw (at-other e .1) h))
+  plan-since e h = plan-full (fits-not (countEntry i b key value) (λ p q r. omega (arith, at-other e .1)))
 
   plan-entry : (s x y z : ℕ) → length key ≤ 1032 → s ≡ sharing i (b .since) (b .last) key → x ≡ countEntry i b key value .bytes
       → y ≡ countEntry i b key value .restarts → z ≡ countEntry i b key value .since → x < 2 ^ 64 → y < 2 ^ 64 → z < 2 ^ 64
@@ -180,7 +177,7 @@ module _ (size at bytes marks restarts mark : ℕ) where
 -- ---- the answers
 
 never-full : (s x y z : ℕ) → Entry s x y z ≡ Full → ⊥
-never-full s x y z e = let o : _≡_ {A = ℕ} 0 1 = cc in omega arith
+never-full s x y z e = apart cc
 
 full-by : (t : Bool) (s x y z : ℕ) → cond t (Entry s x y z) Full ≡ Full → t ≡ false
 full-by true s x y z e = absurd (never-full s x y z e)

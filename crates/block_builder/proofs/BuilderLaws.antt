@@ -2,7 +2,7 @@
 use Prim.Native.Nat.{ℕ, _+_, _≤_}
 use mathlib.Core.Path.{_≡_, refl, sym, ap, ap₂, _∙_}
 use mathlib.Core.List.{List, [], _∷_, _++_}
-use mathlib.Core.Bool.{true, false}
+use mathlib.Core.Bool.{Bool, true, false, cond}
 use native.Mathlib.Omega.{arith}
 use native.Mathlib.Nat.{zero-add}
 use lib.Dec.{leb, eqb}
@@ -66,17 +66,12 @@ module _ (b : BlockBuilder) (at : ℕ) (out restarts key value : List ℕ) where
       (leb-true (length key) 1032 (k .0), leb-true _ (length out) (y .0), leb-true _ (length restarts) (z .0))
 
 module _ {b : BlockBuilder} {at : ℕ} {out out′ restarts restarts′ key value : List ℕ} {r : Added} (h : AddedIs b at out out′ restarts restarts′ key value r) where
-  -- an entry that does not fit leaves all as it was
-  pub added-not : r .fits ≡ false → (r .block ≡ b) × (out′ ≡ out) × (restarts′ ≡ restarts)
-  added-not f =
-      let n : addable b at out restarts key value ≡ false = sym (h .fits) ∙ f in
-      (h .block ∙ rw n, h .written ∙ rw n, h .marked ∙ rw n)
-
-  -- and one that fits is written
-  pub added-did : r .fits ≡ true
-      → (r .block ≡ builderAfter b key (length value)) × (out′ ≡ put out (at + b .bytes) (nextBytes b key value)) × (restarts′ ≡ put restarts (b .restarts) (nextRestart b))
-  added-did f =
-      let n : addable b at out restarts key value ≡ true = sym (h .fits) ∙ f in
+  -- an entry that fits is written, and one that does not leaves all as it was
+  pub added-is : (fits : Bool) → r .fits ≡ fits
+      → (r .block ≡ cond fits (builderAfter b key (length value)) b) × (out′ ≡ cond fits (put out (at + b .bytes) (nextBytes b key value)) out)
+      × (restarts′ ≡ cond fits (put restarts (b .restarts) (nextRestart b)) restarts)
+  added-is fits f =
+      let n : addable b at out restarts key value ≡ fits = sym (h .fits) ∙ f in
       (h .block ∙ rw n, h .written ∙ rw n, h .marked ∙ rw n)
 
   -- before the entry and behind it nothing changes
@@ -85,12 +80,12 @@ module _ {b : BlockBuilder} {at : ℕ} {out out′ restarts restarts′ key valu
   added-kept =
       test (r .fits)
       (λ f.
-      let d = added-did f in
+      let d = added-is true f in
       let z : r .block .bytes ≡ countEntry (b .interval) (countIn b) key (length value) .bytes = ap (λ (c : BlockBuilder). c .bytes) (d .0) in
       let x : at + b .bytes + length (nextBytes b key value) ≡ at + r .block .bytes = omega (arith, next-bytes b key value) in
       let y : b .restarts + length (nextRestart b) ≡ r .block .restarts = next-restarts b key value ∙ sym (ap (λ (c : BlockBuilder). c .restarts) (d .0)) in
       (rw (← x, d .1) (kept-put out (at + b .bytes) (nextBytes b key value)), rw (← y, d .2) (kept-put restarts (b .restarts) (nextRestart b))))
-      (λ f. let d = added-not f in rw (d .1, d .2) (kept-same _ _ out, kept-same _ _ restarts))
+      (λ f. let d = added-is false f in rw (d .1, d .2) (kept-same _ _ out, kept-same _ _ restarts))
 
 -- ---- the block
 
@@ -120,7 +115,7 @@ module _ {i : ℕ} {ps : List Pair} {b : BlockBuilder} {at : ℕ} {out restarts 
       → Stands i (ps ++ (p ∷ [])) (r .block) at out′ restarts′
   unfolding builderAfter builderWith
   stands-more {out′} {restarts′} {r} h f =
-      let d = added-did h f in
+      let d = added-is h true f in
       let t = addable-is b at out restarts (p .key) (p .value) (sym (h .fits) ∙ f) in
       let nb = nextBytes b (p .key) (p .value) in
       let nr = nextRestart b in

@@ -16,7 +16,7 @@ use Rattle.blocks.specs.Block.{Pair, packed, restartsOf}
 use Rattle.blocks.specs.Count.{BlockCount, countOf, countEntry}
 use Rattle.block_builder.specs.Builder as Blocks
 use Rattle.block_builder.specs.Builder.{countIn, builderAfter, builderWith, AddedIs}
-use Rattle.block_builder.proofs.BuilderLaws.{stands-more, added-kept, added-did}
+use Rattle.block_builder.proofs.BuilderLaws.{stands-more, added-kept, added-is}
 use Rattle.block_builder.proofs.BuilderCode.{next-bytes, next-restarts}
 use Rattle.filters.specs.Filter.{hash}
 use Rattle.filters.specs.FilterBlock.{Filters, wait}
@@ -158,7 +158,7 @@ module _ {o : Options} {c : Building} {s : Builder} (h : Counted o c s) (a : Add
       grows : (s .pending .bytes ≤ x .block .bytes) × (s .pending .restarts ≤ x .block .restarts)
       unfolding builderAfter builderWith
       grows =
-          let e = added-did g entry-fits .0 in (
+          let e = added-is g true entry-fits .0 in (
             omega (arith, next-bytes (s .pending) (keyOf a) (a .value), ap (λ (q : BlockBuilder). q .bytes) e),
             omega (arith, next-restarts (s .pending) (keyOf a) (a .value), ap (λ (q : BlockBuilder). q .restarts) e),
           )

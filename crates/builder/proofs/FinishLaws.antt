@@ -24,7 +24,7 @@ use Rattle.blocks.proofs.CountLaws.{count-size}
 use Rattle.blocks.proofs.BuildLaws.{block-length}
 use Rattle.block_builder.specs.Builder as Blocks
 use Rattle.block_builder.specs.Builder.{countIn, newBuilder, builderAfter, builderWith, nextBytes, AddedIs}
-use Rattle.block_builder.proofs.BuilderLaws.{counting-none, after-is, stands-none, stands-more, stands-size, added-did}
+use Rattle.block_builder.proofs.BuilderLaws.{counting-none, after-is, stands-none, stands-more, stands-size, added-is}
 use Rattle.block_builder.proofs.BuilderCode.{next-bytes}
 use Rattle.filter_block.specs.declared.filter.Filter as FilterEnum
 use Rattle.filter_block.specs.declared.filter.Filter.the-variants as FilterCase
@@ -101,7 +101,7 @@ module _ (i at : ℕ) (out key value : List ℕ) {out₁ rs₁ out₂ out₃ : L
   one-bytes : x .fits ≡ true → (x .block .bytes ≡ length (nextBytes b₀ key value)) × (x .block .bytes ≡ c .bytes)
   unfolding builderAfter builderWith newBuilder
   one-bytes f =
-      let e : x .block .bytes ≡ c .bytes = ap (λ (y : BlockBuilder). y .bytes) (added-did g f .0) in
+      let e : x .block .bytes ≡ c .bytes = ap (λ (y : BlockBuilder). y .bytes) (added-is g true f .0) in
       let n = next-bytes b₀ key value in
       (omega (arith, e, n), e)
 
@@ -113,7 +113,7 @@ module _ (i at : ℕ) (out key value : List ℕ) {out₁ rs₁ out₂ out₃ : L
             let fits = one-fits h in
             let more = stands-more (stands-none i at out (0 ∷ [])) p g fits in
             let nb = nextBytes b₀ key value in
-            let z : out₁ ≡ put out at nb = added-did g fits .1 ∙ ap (λ (n : ℕ). put out n nb) (add-zero at) in
+            let z : out₁ ≡ put out at nb = added-is g true fits .1 ∙ ap (λ (n : ℕ). put out n nb) (add-zero at) in
             let n = one-bytes fits in
             let room : at + length nb ≤ length out = omega (arith, one-size, n .0, n .1) in
             let q : packed i i [] (p ∷ []) ≡ nb = sym (more .entries) ∙ ap₂ (λ (o : List ℕ) (j : ℕ). part o at j) z (n .0) ∙ part-put out at nb room in
