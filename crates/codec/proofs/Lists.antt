@@ -89,10 +89,6 @@ pub pairs-at : {A : Type 0} {R : A → A → Type 0} (bs : List A) {x : A} (cs :
 pairs-at [] cs ds (Pairs.cons p ps) = all-mem p (Memᴰ·append-right cs (List·Memᴰ·head refl))
 pairs-at (b ∷ bs) cs ds (Pairs.cons p ps) = pairs-at bs cs ds ps
 
-pub all-any : {A : Type 0} {P : A → Type 0} (xs : List A) → ((x : A) → P x) → All P xs
-all-any [] f = All.nil
-all-any (x ∷ xs) f = All.cons (f x) (all-any xs f)
-
 -- ---- the first that passes a test
 
 abbrev pub orElse : {A : Type 0} → Option A → Option A → Option A

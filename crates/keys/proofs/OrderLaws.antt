@@ -3,7 +3,7 @@ use Prim.Native.Nat.{ℕ, zero, suc, _≤_, _<_, compare, Ordering, Ordering·lt
 use mathlib.Core.Path.{_≡_, refl, sym, ap, ap₂, _∙_}
 use mathlib.Core.Logic.{_⊎_, inl, inr}
 use mathlib.Core.List.{List, [], _∷_}
-use mathlib.Core.Bool.{Bool, true, false, not, false≢true}
+use mathlib.Core.Bool.{Bool, true, false, not, false≢true, Bool·not-not}
 use native.Mathlib.Omega.{arith}
 use lib.Dec.{T, isLe, leb, isEq, eqb→eq, leb→le, le→leb, T-not}
 use Rattle.codec.specs.Bytes.{sameBytes}
@@ -297,12 +297,8 @@ less-turned Ordering·lt = refl
 less-turned Ordering·eq = refl
 less-turned Ordering·gt = refl
 
-twice-not : (t : Bool) → not (not t) ≡ t
-twice-not true = refl
-twice-not false = refl
-
 upTo-leb : (x y : ℕ) → not (isLess (compare y x)) ≡ leb x y
-upTo-leb x y = rw (less-turned (compare y x), ← compare-turned y x) (twice-not (leb x y))
+upTo-leb x y = rw (less-turned (compare y x), ← compare-turned y x) (Bool·not-not (leb x y))
 
 pub compare-upTo : (x y : ℕ) → T (not (isLess (compare y x))) → x ≤ y
 compare-upTo x y t = leb→le x y (rw (upTo-leb x y) at t)

@@ -11,7 +11,7 @@ use Rattle.codec.specs.Bytes.{part}
 use Rattle.codec.specs.Varint.{Handle}
 use Rattle.codec.proofs.BytesLaws.{part-part, part-most}
 use Rattle.codec.proofs.Prelude.{test, false-is, is-true, is-false, and-l, and-r, and-i}
-use Rattle.codec.proofs.Lists.{All, all-of, Pairs, all-mem, all-append, all-imp, all-map, all-any, pairs-map, pairs-imp, pairs-append, pairs-at}
+use Rattle.codec.proofs.Lists.{All, all-of, Pairs, all-mem, all-append, all-imp, all-map, pairs-map, pairs-imp, pairs-append, pairs-at}
 use Rattle.blocks.specs.Block.{Entry, Block, block}
 use Rattle.blocks.proofs.ReadLaws.{StartsBefore, block-starts, ValueIn, block-values}
 use Rattle.table.specs.Checked.{Checked, pass, refuse}
@@ -44,7 +44,7 @@ apart-across x y h t =
 module _ (t : List ℕ) where
   of-block : (ix : Entry) → All (λ (x : Found). x .indexStart ≡ ix .start) (foundsOf t ix)
   unfolding foundsOf
-  of-block ix = all-map (foundIn ix) (all-any (entriesAt t (handleOf (ix .value))) (λ e. refl))
+  of-block ix = all-map (foundIn ix) (all-of (entriesAt t (handleOf (ix .value))) (λ e m. refl))
 
   block-places : (ix : Entry) → Pairs Apart (foundsOf t ix)
   unfolding foundsOf
