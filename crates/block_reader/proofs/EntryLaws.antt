@@ -18,11 +18,12 @@ use Rattle.codec.specs.Put.{put}
 use Rattle.codec.specs.Varint.{varint}
 use Rattle.codec.proofs.BytesLaws.{part-rest, part-between, part-drop, part-length}
 use Rattle.codec.proofs.MaybeLaws.{getting, giving, gets}
-use Rattle.codec.proofs.Prelude.{test}
+use Rattle.codec.proofs.Prelude.{test, apart, came-of}
 use Rattle.codec.proofs.PutLaws.{put-room, put-full}
-use Rattle.codec.proofs.VarintCode.{no-varint, a-varint, varint-within}
+use Rattle.codec.proofs.VarintCode.{varint-said, varint-within}
 use Rattle.block_reader.specs.declared.block.EntryRead.{EntryRead}
 use Rattle.block_reader.specs.declared.block.EntryRead.the-variants as EntryCase
+use Rattle.block_reader.specs.declared.block.HeadRead.{HeadRead}
 use Rattle.block_reader.specs.declared.block.HeadRead.the-variants as HeadCase
 use Rattle.blocks.specs.Block.{Head, head, Entry, entry, next}
 use Rattle.block_reader.specs.Said.{entryAnswer, keyLeft}
@@ -41,32 +42,32 @@ after-after s a b = part-rest (after s a) b ∙ ap (drop b) (part-rest s a) ∙ 
 module _ (s : List ℕ) where
   pub no-shared : varintAnswer (varint s) ≡ VarintCase.Bad → HeadCase.Bad ≡ headAnswer (head s)
   unfolding headAnswer head _>>=_
-  no-shared e = rw (no-varint s e)
+  no-shared e = rw (varint-said (varint s) e)
 
   module _ {v a : ℕ} (first : varintAnswer (varint s) ≡ VarintCase.Value v a) where
     pub no-fresh : varintAnswer (varint (after s a)) ≡ VarintCase.Bad → HeadCase.Bad ≡ headAnswer (head s)
     unfolding headAnswer head _>>=_
     no-fresh e =
-        let p = a-varint s first in
-        let q = no-varint (drop a s) (rw (part-rest s a) at e) in
+        let p = varint-said (varint s) first in
+        let q = varint-said (varint (drop a s)) (rw (part-rest s a) at e) in
         cc
 
     module _ {w b : ℕ} (second : varintAnswer (varint (after s a)) ≡ VarintCase.Value w b) where
       pub no-value : varintAnswer (varint (after (after s a) b)) ≡ VarintCase.Bad → HeadCase.Bad ≡ headAnswer (head s)
       unfolding headAnswer head _>>=_
       no-value e =
-          let p = a-varint s first in
-          let q = a-varint (drop a s) (rw (part-rest s a) at second) in
-          let r = no-varint (drop (a + b) s) (rw (after-after s a b) at e) in
+          let p = varint-said (varint s) first in
+          let q = varint-said (varint (drop a s)) (rw (part-rest s a) at second) in
+          let r = varint-said (varint (drop (a + b) s)) (rw (after-after s a b) at e) in
           cc
 
       module _ {x c : ℕ} (third : varintAnswer (varint (after (after s a) b)) ≡ VarintCase.Value x c) where
         pub whole-head : HeadCase.Head v w x (a + b + c) ≡ headAnswer (head s)
         unfolding headAnswer head _>>=_
         whole-head =
-            let p = a-varint s first in
-            let q = a-varint (drop a s) (rw (part-rest s a) at second) in
-            let r = a-varint (drop (a + b) s) (rw (after-after s a b) at third) in
+            let p = varint-said (varint s) first in
+            let q = varint-said (varint (drop a s)) (rw (part-rest s a) at second) in
+            let r = varint-said (varint (drop (a + b) s)) (rw (after-after s a b) at third) in
             cc
 
         pub head-fits : a + b + c ≤ length s
@@ -84,45 +85,40 @@ module _ (s : List ℕ) where
 
 -- ---- the two tests
 
-no-head : (o : Option Head) → headAnswer o ≡ HeadCase.Bad → o ≡ none
-no-head none e = refl
-no-head (some h) e = unfold headAnswer in cc
+-- the numbers that an answer says
+abbrev headIn : HeadRead → Option Head
+headIn HeadCase.Bad = none
+headIn (HeadCase.Head sh fr v n) = some (record { shared = sh; fresh = fr; valueSize = v; size = n })
 
-a-head : (o : Option Head) {sh fr v n : ℕ} → headAnswer o ≡ HeadCase.Head sh fr v n → o ≡ some (record { shared = sh; fresh = fr; valueSize = v; size = n })
-a-head none e = unfold headAnswer in cc
-a-head (some h) {sh} {fr} {v} {n} e =
-    unfold headAnswer in
-    let p : h .shared ≡ sh = cc in
-    let q : h .fresh ≡ fr = cc in
-    let t : h .valueSize ≡ v = cc in
-    let u : h .size ≡ n = cc in
-    λ i. some (record { shared = p i; fresh = q i; valueSize = t i; size = u i })
+head-said : (o : Option Head) {r : HeadRead} → headAnswer o ≡ r → o ≡ headIn r
+unfolding headAnswer
+head-said = came-of headAnswer headIn (λ o. elim o [ none ↦ refl | some h ↦ refl ])
 
 pub numbers-within : (rest : List ℕ) {sh fr v z : ℕ} → headAnswer (head rest) ≡ HeadCase.Head sh fr v z → z ≤ length rest
-numbers-within rest e = head-size rest (a-head (head rest) e) .there
+numbers-within rest e = head-size rest (head-said (head rest) e) .there
 
 module _ (n : ℕ) (rest : List ℕ) where
   pub no-numbers : headAnswer (head rest) ≡ HeadCase.Bad → HeadCase.Bad ≡ headAnswer (headAfter n rest)
   unfolding headAnswer headAfter _>>=_
-  no-numbers e = rw (no-head (head rest) e)
+  no-numbers e = rw (head-said (head rest) e)
 
   module _ {sh fr v z : ℕ} (e : headAnswer (head rest) ≡ HeadCase.Head sh fr v z) where
     pub shares-more : n < sh → HeadCase.Bad ≡ headAnswer (headAfter n rest)
     unfolding headAnswer headAfter _>>=_ ask
     shares-more h =
-        let p = a-head (head rest) e in
+        let p = head-said (head rest) e in
         cc (lt-leb sh n h)
 
     pub not-within : sh ≤ n → length rest < z + fr + v → HeadCase.Bad ≡ headAnswer (headAfter n rest)
     unfolding headAnswer headAfter _>>=_ ask
     not-within h l =
-        let p = a-head (head rest) e in
+        let p = head-said (head rest) e in
         cc (le-leb sh n h, lt-leb (z + fr + v) (length rest) l)
 
     pub head-stands : sh ≤ n → z + fr + v ≤ length rest → HeadCase.Head sh fr v z ≡ headAnswer (headAfter n rest)
     unfolding headAnswer headAfter _>>=_ ask
     head-stands h l =
-        let p = a-head (head rest) e in
+        let p = head-said (head rest) e in
         cc (le-leb sh n h, le-leb (z + fr + v) (length rest) l)
 
 -- ---- the entry that the numbers make
@@ -156,7 +152,7 @@ pub entry-none : (at : ℕ) (before rest : List ℕ) (n : ℕ) → n ≡ length 
 unfolding _>>=_
 entry-none at before rest n l e =
     let p = entry-by at before rest in
-    let q : headAfter (length before) rest ≡ none = no-head (headAfter (length before) rest) (rw l at e) in
+    let q : headAfter (length before) rest ≡ none = head-said (headAfter (length before) rest) (rw l at e) in
     cc
 
 -- what it is made of, in numbers
@@ -188,7 +184,7 @@ passing n rest {h} p =
 pub entry-made : (at : ℕ) (before rest : List ℕ) (n : ℕ) {sh fr v z : ℕ} → n ≡ length before → headAnswer (headAfter n rest) ≡ HeadCase.Head sh fr v z → Made at before rest sh fr v z
 entry-made at before rest n {sh} {fr} {v} {z} l e =
     let h : Head = record { shared = sh; fresh = fr; valueSize = v; size = z } in
-    let q : headAfter (length before) rest ≡ some h = a-head (headAfter (length before) rest) (rw l at e) in
+    let q : headAfter (length before) rest ≡ some h = head-said (headAfter (length before) rest) (rw l at e) in
     let p = passing (length before) rest q in
     let s : sh ≤ length before = p .shares in
     let f : z + fr + v ≤ length rest = p .fits in
@@ -259,7 +255,7 @@ module _ (k rest : List ℕ) (n : ℕ) where
 
 -- ---- an entry at a place of d
 
-abbrev movedAnswer : ℕ → EntryRead → EntryRead
+abbrev pub movedAnswer : ℕ → EntryRead → EntryRead
 movedAnswer at EntryCase.Bad = EntryCase.Bad
 movedAnswer at (EntryCase.Entry sh n a v) = EntryCase.Entry sh n (at + a) v
 
@@ -283,12 +279,8 @@ left-moved k at before rest = rw (entry-by at before rest, entry-by 0 before res
     go (some h) = refl
 
 module _ (k before d : List ℕ) (at : ℕ) where
-  pub at-bad : entryAnswer (length k) (entry 0 before (after d at)) ≡ EntryCase.Bad → EntryCase.Bad ≡ entryAnswer (length k) (entry at before (drop at d))
-  at-bad e = sym (answer-moved (length k) at before (drop at d) ∙ ap (movedAnswer at) (rw (part-rest d at) at e))
-
-  pub at-entry : {sh n a v : ℕ} → entryAnswer (length k) (entry 0 before (after d at)) ≡ EntryCase.Entry sh n a v
-      → EntryCase.Entry sh n (at + a) v ≡ entryAnswer (length k) (entry at before (drop at d))
-  at-entry e = sym (answer-moved (length k) at before (drop at d) ∙ ap (movedAnswer at) (rw (part-rest d at) at e))
+  pub at-said : {r : EntryRead} → entryAnswer (length k) (entry 0 before (after d at)) ≡ r → movedAnswer at r ≡ entryAnswer (length k) (entry at before (drop at d))
+  at-said e = sym (answer-moved (length k) at before (drop at d) ∙ ap (movedAnswer at) (rw (part-rest d at) at e))
 
   pub at-left : {k′ : List ℕ} → k′ ≡ keyLeft k (entry 0 before (after d at)) → k′ ≡ keyLeft k (entry at before (drop at d))
   at-left e = (rw (part-rest d at) at e) ∙ sym (left-moved k at before (drop at d))
@@ -307,7 +299,7 @@ pub record Step (d : List ℕ) (at : ℕ) (before : List ℕ) (m sh n a v : ℕ)
   pub within : a + v ≤ length d
 
 bad-entry : {sh n a v : ℕ} → EntryCase.Bad ≡ EntryCase.Entry sh n a v → ⊥
-bad-entry e = let z : _≡_ {A = ℕ} 0 1 = cc in omega arith
+bad-entry e = apart cc
 
 pub step-read : (d : List ℕ) (at : ℕ) (before : List ℕ) {m sh n a v : ℕ} → at ≤ length d → entryAnswer m (entry at before (drop at d)) ≡ EntryCase.Entry sh n a v → Step d at before m sh n a v
 unfolding entryAnswer next

@@ -14,7 +14,7 @@ use Rattle.codec.specs.Answers.{oneHandleAnswer}
 use Rattle.codec.specs.Bytes.{numbers, sameBytes}
 use Rattle.codec.specs.Maybe.{_>>=_, ask}
 use Rattle.codec.specs.Varint.{Handle, oneHandle}
-use Rattle.codec.proofs.VarintCode.{no-one, a-one}
+use Rattle.codec.proofs.VarintCode.{one-said}
 use Rattle.codec.proofs.Prelude.{test, split}
 use Rattle.block_reader.specs.declared.block.EntryRead.the-variants as EntryCase
 use Rattle.block_reader.specs.declared.block.Kind as KindEnum
@@ -36,19 +36,16 @@ use Rattle.block_reader.proofs.WalkLaws.{from-end, from-none, from-some
 
 pub not-handle : (s : List ℕ) → oneHandleAnswer (oneHandle s) ≡ OneCase.Bad → false ≡ isHandle s
 unfolding isHandle
-not-handle s e = rw (no-one s e, isHandle)
+not-handle s e = rw (one-said (oneHandle s) e, isHandle)
 
 pub one-handle-is : (s : List ℕ) {a b : ℕ} → oneHandleAnswer (oneHandle s) ≡ OneCase.Handle a b → true ≡ isHandle s
 unfolding isHandle
-one-handle-is s e = rw (a-one s e, isHandle)
+one-handle-is s e = rw (one-said (oneHandle s) e, isHandle)
 
 -- ---- the limits of a kind
 
-pub and-yes : {a : Bool} (b : Bool) → a ≡ true → a && b ≡ b
-and-yes b e = rw e
-
-pub and-no : {a : Bool} (b : Bool) → a ≡ false → a && b ≡ false
-and-no b e = rw e
+pub and-with : {a t : Bool} (b : Bool) → a ≡ t → a && b ≡ t && b
+and-with b e = rw e
 
 module _ {kind : KindEnum.Kind} (p : Pair) where
   pub limits-data : kind ≡ KindCase.Data → entryFits (kindOf kind) p ≡ within 9 1032 (length (p .key)) && leb (length (p .value)) 32768
@@ -78,13 +75,8 @@ module _ {kind : KindEnum.Kind} (b : Bool) where
   unfolding kindOf enough
   empty-data e = rw e (and-false b)
 
-  pub empty-index : kind ≡ KindCase.Index → b && enough (kindOf kind) [] ≡ b
-  unfolding kindOf enough
-  empty-index e = rw e (and-true b)
-
-  pub empty-meta : kind ≡ KindCase.Metaindex → b && enough (kindOf kind) [] ≡ b
-  unfolding kindOf enough
-  empty-meta e = rw e (and-true b)
+  pub empty-other : {k : KindEnum.Kind} → kind ≡ k → enough (kindOf k) [] ≡ true → b && enough (kindOf kind) [] ≡ b
+  empty-other e h = rw (e, h) (and-true b)
 
 -- ---- one entry
 
@@ -121,29 +113,39 @@ module _ (kind : Kind) (d : List ℕ) (at : ℕ) (before : List ℕ) where
       step : (rs : List ℕ) → filledFrom kind d at before rs ≡ judged kind rs (entriesFrom d (next e) (e .key) >>= (λ es. some (e ∷ es)))
       step rs = filled-judged kind d at before rs ∙ ap (judged kind rs) (from-some d at before inside read)
 
-      -- an entry outside the limits
-      pub filled-wrong : (rs : List ℕ) → entryFits kind (asPair e) ≡ false → filledFrom kind d at before rs ≡ false
-      unfolding judged _>>=_ all
-      filled-wrong rs f = step rs ∙ go (entriesFrom d (next e) (e .key))
+      -- it fails, whatever entries follow
+      fails : (rs : List ℕ) → ((es : List Entry) → judged kind rs (some (e ∷ es)) ≡ false) → filledFrom kind d at before rs ≡ false
+      unfolding judged _>>=_
+      fails rs h = step rs ∙ go (entriesFrom d (next e) (e .key))
         where
           go : (o : Option (List Entry)) → judged kind rs (o >>= (λ es. some (e ∷ es))) ≡ false
           go none = refl
-          go (some es) = rw f
+          go (some es) = h es
+
+      -- or it comes, whatever entries follow, to the test of these
+      onward : (rs qs : List ℕ) → ((es : List Entry) → judged kind rs (some (e ∷ es)) ≡ judged kind qs (some es)) → filledFrom kind d at before rs ≡ filledFrom kind d (next e) (e .key) qs
+      unfolding judged _>>=_
+      onward rs qs h = step rs ∙ go (entriesFrom d (next e) (e .key)) ∙ sym (filled-judged kind d (next e) (e .key) qs)
+        where
+          go : (o : Option (List Entry)) → judged kind rs (o >>= (λ es. some (e ∷ es))) ≡ judged kind qs o
+          go none = refl
+          go (some es) = h es
+
+      -- an entry outside the limits
+      pub filled-wrong : (rs : List ℕ) → entryFits kind (asPair e) ≡ false → filledFrom kind d at before rs ≡ false
+      unfolding judged all
+      filled-wrong rs f = fails rs (λ es. rw f)
 
       module _ (f : entryFits kind (asPair e) ≡ true) where
         -- no restart there
         pub filled-past : (rs : List ℕ) → marks at rs ≡ false → filledFrom kind d at before rs ≡ filledFrom kind d (next e) (e .key) rs
-        unfolding judged _>>=_ all restartsStand marks
-        filled-past rs m = step rs ∙ go (entriesFrom d (next e) (e .key)) ∙ sym (filled-judged kind d (next e) (e .key) rs)
+        unfolding judged all restartsStand marks
+        filled-past rs m = onward rs rs (λ es. rw (f, stands rs es m))
           where
             stands : (rs : List ℕ) (es : List Entry) → marks at rs ≡ false → restartsStand rs (e ∷ es) ≡ restartsStand rs es
             stands [] [] m = refl
             stands [] (g ∷ es) m = refl
             stands (r ∷ rs) es m = rw (entry-start at before (drop at d) read, m, restartsStand)
-
-            go : (o : Option (List Entry)) → judged kind rs (o >>= (λ es. some (e ∷ es))) ≡ judged kind rs o
-            go none = refl
-            go (some es) = rw (f, stands rs es m)
 
         module _ (r : ℕ) (rs : List ℕ) (same : r ≡ at) where
           stands : (es : List Entry) → restartsStand (r ∷ rs) (e ∷ es) ≡ eqb (e .shared) 0 && restartsStand rs es
@@ -152,21 +154,13 @@ module _ (kind : Kind) (d : List ℕ) (at : ℕ) (before : List ℕ) where
 
           -- a restart there, and the entry shares nothing
           pub filled-mark : e .shared ≡ 0 → filledFrom kind d at before (r ∷ rs) ≡ filledFrom kind d (next e) (e .key) rs
-          unfolding judged _>>=_ all
-          filled-mark z = step (r ∷ rs) ∙ go (entriesFrom d (next e) (e .key)) ∙ sym (filled-judged kind d (next e) (e .key) rs)
-            where
-              go : (o : Option (List Entry)) → judged kind (r ∷ rs) (o >>= (λ es. some (e ∷ es))) ≡ judged kind rs o
-              go none = refl
-              go (some es) = rw (f, stands es, eq-eqb (e .shared) 0 z)
+          unfolding judged all
+          filled-mark z = onward (r ∷ rs) rs (λ es. rw (f, stands es, eq-eqb (e .shared) 0 z))
 
           -- it shares
           pub filled-shares : (e .shared ≡ 0 → ⊥) → filledFrom kind d at before (r ∷ rs) ≡ false
-          unfolding judged _>>=_ all
-          filled-shares z = step (r ∷ rs) ∙ go (entriesFrom d (next e) (e .key))
-            where
-              go : (o : Option (List Entry)) → judged kind (r ∷ rs) (o >>= (λ es. some (e ∷ es))) ≡ false
-              go none = refl
-              go (some es) = rw (f, stands es, ne-eqb (e .shared) 0 z) (and-false (all (entryFits kind) (pairsOf es)))
+          unfolding judged all
+          filled-shares z = fails (r ∷ rs) (λ es. rw (f, stands es, ne-eqb (e .shared) 0 z) (and-false (all (entryFits kind) (pairsOf es))))
 
 -- a key over 1,032 bytes is outside the limits of every kind
 within-over : (low n : ℕ) → 1032 < n → within low 1032 n ≡ false
@@ -235,12 +229,18 @@ module _ (kind : Kind) {d : List ℕ} {at : ℕ} {k : List ℕ} {m : ℕ} {k′ 
         ap (filledFrom kind d at (take m k)) (marked-at at qs h .1)
         ∙ filled-shares kind d at (take m k) inside (t .step .reads) (sym fits-is ∙ f) at (drop 1 qs) refl (λ p. z (sym (t .step .shared) ∙ p))
 
+-- two equations of numbers, each of which follows from the other
+same-eqb : (a b c d : ℕ) → (a ≡ b → c ≡ d) → (c ≡ d → a ≡ b) → eqb a b ≡ eqb c d
+same-eqb a b c d f g =
+    test (eqb a b)
+    (λ t. t ∙ sym (eq-eqb c d (f (eqb-true a b t))))
+    (λ t. t ∙ sym (ne-eqb c d (λ e. eqb-false a b t (g e))))
+
 -- at the end
 pub pass-end : (kind : Kind) (d rs : List ℕ) (at : ℕ) (before : List ℕ) (j : ℕ) → at ≤ length d → length d ≤ at → j ≤ length rs → eqb j (length rs) ≡ filledFrom kind d at before (drop j rs)
 pass-end kind d rs at before j h g w =
-    sym (filled-end kind d at before (drop j rs) (omega arith) ∙ test (eqb j (length rs))
-    (λ t. eq-eqb (length (drop j rs)) 0 (omega (arith, length-drop j rs, eqb-true j (length rs) t)) ∙ sym t)
-    (λ t. ne-eqb (length (drop j rs)) 0 (λ e. eqb-false j (length rs) t (omega (arith, length-drop j rs))) ∙ sym t))
+    same-eqb j (length rs) (length (drop j rs)) 0 (λ e. omega (arith, length-drop j rs)) (λ e. omega (arith, length-drop j rs))
+    ∙ sym (filled-end kind d at before (drop j rs) (omega arith))
 
 -- ---- a whole block
 
@@ -325,9 +325,7 @@ module _ (kind : Kind) (s : List ℕ) (end count : ℕ) (l : Laid s end count) w
         one : eqb (length (drop 1 rs)) 0 ≡ eqb count 1
         one =
             let n : length (restartAt s end 0 ∷ drop 1 rs) ≡ count = ap length (sym restarts-head) ∙ numbers-length count (drop end s) in
-            test (eqb count 1)
-            (λ t. eq-eqb (length (drop 1 rs)) 0 (omega (arith, eqb-true count 1 t)) ∙ sym t)
-            (λ t. ne-eqb (length (drop 1 rs)) 0 (λ g. eqb-false count 1 t (omega arith)) ∙ sym t)
+            same-eqb (length (drop 1 rs)) 0 count 1 (λ e. omega arith) (λ e. omega arith)
 
     -- with entries
     pub formed-filled : 0 < end → filledFrom kind d 0 [] rs ≡ isFormed kind s

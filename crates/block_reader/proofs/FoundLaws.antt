@@ -10,7 +10,7 @@ use borrow.Author.Tests.{le-leb, lt-leb}
 use Rattle.codec.specs.declared.put.Written.{Written}
 use Rattle.codec.specs.declared.put.Written.the-variants as WrittenCase
 use Rattle.codec.specs.Put.{Wrote}
-use Rattle.codec.proofs.Prelude.{split}
+use Rattle.codec.proofs.Prelude.{split, apart}
 use Rattle.codec.proofs.PutLaws.{answer-room, answer-full, put-full}
 use Rattle.block_reader.specs.declared.block.Found.{Found}
 use Rattle.block_reader.specs.declared.block.Found.the-variants as FoundCase
@@ -34,12 +34,12 @@ module _ (k key : List ℕ) (start at v : ℕ) where
     handed-none e =
         split (length k) (length key)
         (λ h. record { said = sym (hand-full h); left = w .left })
-        (λ h. absurd (let f = w .said ∙ answer-room k 0 key (omega arith) in let z : _≡_ {A = ℕ} 0 1 = cc in omega arith))
+        (λ h. let f = w .said ∙ answer-room k 0 key (omega arith) in apart cc)
 
     pub handed-some : {n : ℕ} → r ≡ WrittenCase.At n → Handed k key start at v (FoundCase.Entry start n at v) k′
     handed-some {n} e =
         split (length k) (length key)
-        (λ h. absurd (let f = w .said ∙ answer-full k 0 key (omega arith) in let z : _≡_ {A = ℕ} 0 1 = cc in omega arith))
+        (λ h. let f = w .said ∙ answer-full k 0 key (omega arith) in apart cc)
         (λ h.
         let f = w .said ∙ answer-room k 0 key (omega arith) in
         let n-is : n ≡ 0 + length key = cc in

@@ -14,8 +14,10 @@ use Rattle.codec.specs.Answers.{u32Answer}
 use Rattle.codec.specs.Bytes.{part, numberOf, numberAt, numbers}
 use Rattle.codec.specs.Maybe.{_>>=_, ask}
 use Rattle.codec.proofs.BytesLaws.{part-drop, part-end}
-use Rattle.codec.proofs.FixedLaws.{number-read, a-u32}
+use Rattle.codec.proofs.FixedLaws.{number-read, u32-said}
 use Rattle.codec.proofs.MaybeLaws.{giving, gets}
+use Rattle.codec.proofs.Prelude.{came-of}
+use Rattle.block_reader.specs.declared.block.RowsRead.{RowsRead}
 use Rattle.block_reader.specs.declared.block.RowsRead.the-variants as RowsCase
 use Rattle.blocks.specs.Block.{Entry, entriesF, firstIsZero, Block, block}
 use Rattle.block_reader.specs.Steps.{Rows, rowsOf, rowsAnswer, Laid, restartAt, marks}
@@ -29,7 +31,7 @@ module _ (s : List ℕ) where
 
   module _ (long : 4 ≤ length s) {n : ℕ} (e : u32Answer (numberAt 4 s (length s - 4)) ≡ U32Case.Value n) where
     last-is : n ≡ numberOf (drop (length s - 4) s)
-    last-is = number-read 4 s (length s - 4) (omega arith) (a-u32 _ e) ∙ ap numberOf (part-end s (length s - 4) 4 (omega arith))
+    last-is = number-read 4 s (length s - 4) (omega arith) (u32-said _ e) ∙ ap numberOf (part-end s (length s - 4) 4 (omega arith))
 
     pub rows-none : n < 1 → RowsCase.Bad ≡ rowsAnswer (rowsOf s)
     unfolding rowsOf rowsAnswer _>>=_ ask
@@ -121,26 +123,23 @@ block-by s =
     let w : Rows = record { end = length s - (4 * n + 4); count = n } in
     asks (leb 4 (length s)) (leb 1 n) (leb (4 * n + 4) (length s)) w (content s) (λ f. content-none s w (omega (arith, leb-false 1 n f)))
 
-no-rows : (o : Option Rows) → rowsAnswer o ≡ RowsCase.Bad → o ≡ none
-no-rows none e = refl
-no-rows (some w) e = unfold rowsAnswer in cc
+-- the layout that an answer says
+abbrev pub rowsIn : RowsRead → Option Rows
+rowsIn RowsCase.Bad = none
+rowsIn (RowsCase.Rows end count) = some (record { end = end; count = count })
+
+pub rows-said : (o : Option Rows) {r : RowsRead} → rowsAnswer o ≡ r → o ≡ rowsIn r
+unfolding rowsAnswer
+rows-said = came-of rowsAnswer rowsIn (λ o. elim o [ none ↦ refl | some w ↦ refl ])
 
 pub no-block : (s : List ℕ) → rowsAnswer (rowsOf s) ≡ RowsCase.Bad → block s ≡ none
 unfolding _>>=_
-no-block s e = block-by s ∙ ap (λ (o : Option Rows). o >>= content s) (no-rows (rowsOf s) e)
-
-some-rows : (o : Option Rows) {end count : ℕ} → rowsAnswer o ≡ RowsCase.Rows end count → o ≡ some (record { end = end; count = count })
-some-rows none e = unfold rowsAnswer in cc
-some-rows (some w) {end} {count} e =
-    unfold rowsAnswer in
-    let p : w .end ≡ end = cc in
-    let q : w .count ≡ count = cc in
-    λ i. some (record { end = p i; count = q i })
+no-block s e = block-by s ∙ ap (λ (o : Option Rows). o >>= content s) (rows-said (rowsOf s) e)
 
 pub laid : (s : List ℕ) {end count : ℕ} → rowsAnswer (rowsOf s) ≡ RowsCase.Rows end count → Laid s end count
 unfolding rowsOf
 laid s {end} {count} e =
-    let r = some-rows (rowsOf s) e in
+    let r = rows-said (rowsOf s) e in
     giving _ _ r λ long p.
     giving _ _ p λ one p.
     giving _ _ p λ room p.

@@ -9,17 +9,17 @@ use Rattle.block_reader.specs.declared.block.EntryRead.the-variants as E
 use Rattle.blocks.specs.Block.{entry}
 use Rattle.block_reader.specs.Said.{entryAnswer, keyLeft}
 use Rattle.blocks.proofs.ReadLaws.{entry-value}
-use Rattle.block_reader.proofs.EntryLaws.{after, at-bad, at-entry, at-left, Taken, taken}
+use Rattle.block_reader.proofs.EntryLaws.{after, at-said, at-left, Taken, taken}
 
 module _ (d : List ℕ) (at : ℕ) (k : List ℕ) (m : ℕ) where
   -- none was read
   pub rest-bad : entryAnswer (length k) (entry 0 (take m k) (after d at)) ≡ EntryCase.Bad → entryAnswer (length k) (entry at (take m k) (drop at d)) ≡ EntryCase.Bad
-  rest-bad e = sym (at-bad k (take m k) d at e)
+  rest-bad e = sym (at-said k (take m k) d at e)
 
   -- one was read
   pub rest-taken : {k′ : List ℕ} {sh n a v : ℕ} → at ≤ length d → length k ≡ 1032 → entryAnswer (length k) (entry 0 (take m k) (after d at)) ≡ EntryCase.Entry sh n a v
       → k′ ≡ keyLeft k (entry 0 (take m k) (after d at)) → length k′ ≡ length k → Taken d at k m k′ sh n (at + a) v
-  rest-taken w room said left same = taken d at k m w room (sym (at-entry k (take m k) d at said)) (at-left k (take m k) d at left) same
+  rest-taken w room said left same = taken d at k m w room (sym (at-said k (take m k) d at said)) (at-left k (take m k) d at left) same
 
 -- its value, as code lends it
 pub value-lent : {d : List ℕ} {at : ℕ} {k : List ℕ} {m : ℕ} {k′ : List ℕ} {sh n a v : ℕ} (t : Taken d at k m k′ sh n a v) → take (a + v - a) (drop a d) ≡ t .step .here .value

@@ -19,6 +19,7 @@ use Rattle.block_reader.specs.declared.block.Found.{Found}
 use Rattle.block_reader.specs.declared.block.Found.the-variants as FoundCase
 use Rattle.block_reader.specs.declared.block.RowsRead.the-variants as RowsCase
 use Rattle.block_reader.specs.declared.block.Which.{Which}
+use Rattle.block_reader.specs.declared.block.Which.the-variants as WhichCase
 use Rattle.blocks.specs.Block.{Pair, Entry, pairsOf, restartsStand, firstIsZero, Block}
 use Rattle.blocks.specs.Formed.{all}
 use Rattle.blocks.specs.Search.{readable, reaches, seekIn, firstIn, inOrder, anyOrder}
@@ -28,17 +29,13 @@ use Rattle.blocks.proofs.ReadLaws.{entry-start, entry-ends, Reads, reads-of, re
 use Rattle.blocks.proofs.FormedLaws.{rises-pairs}
 use Rattle.block_reader.proofs.LayoutLaws.{restarts-have, numbers-length, no-block, block-is, entries-size}
 use Rattle.block_reader.proofs.EntryLaws.{Taken}
-use Rattle.block_reader.proofs.WalkLaws.{read-next, taken-first}
+use Rattle.block_reader.proofs.WalkLaws.{read-next, taken-first, told-by}
 
 -- ---- a search, entry by entry
 
-pub next-here : (at : ℕ) (e : Entry) (es : List Entry) → e .start ≡ at → nextIn at (e ∷ es) ≡ firstIn es
-unfolding placeIn pick firstIn
-next-here at e es h = rw (eq-eqb (e .start) at h, placeIn)
-
-pub at-here : (at : ℕ) (e : Entry) (es : List Entry) → e .start ≡ at → atIn at (e ∷ es) ≡ firstIn (e ∷ es)
-unfolding placeIn pick firstIn
-at-here at e es h = rw (eq-eqb (e .start) at h, placeIn)
+pub place-here : (which : Which) (at : ℕ) (e : Entry) (es : List Entry) → e .start ≡ at → placeIn which at (e ∷ es) ≡ some (pick which e es)
+unfolding placeIn
+place-here which at e es h = rw (eq-eqb (e .start) at h, placeIn)
 
 pub place-past : (which : Which) (at : ℕ) (e : Entry) (es : List Entry) → (e .start ≡ at → ⊥) → placeIn which at (e ∷ es) ≡ placeIn which at es
 unfolding placeIn
@@ -82,12 +79,12 @@ readable-read s {end} {count} l {es} p =
     record { reads = rw e at (reads-of (suc end) (take end s) 0 [] fs from); stand = rw e at stand; fits = rw same at fits }
 
 -- without a layout nothing can be read
-pub said-bad : (s : List ℕ) (says : List Entry → Option (Option Entry)) (ordered : List Entry → Bool) (k : List ℕ) → rowsAnswer (rowsOf s) ≡ RowsCase.Bad → Said s says ordered k FoundCase.Bad k
+pub never-read : (s : List ℕ) → rowsAnswer (rowsOf s) ≡ RowsCase.Bad → {es : List Entry} → readable s ≡ some es → ⊥
 unfolding readable
-said-bad s says ordered k e = record { answer = λ es read o. absurd (never read); buffer = λ es read o. absurd (never read); inside = refl }
-  where
-    never : {es : List Entry} → readable s ≡ some es → ⊥
-    never read = getting _ _ read λ b whole p. Option·none-ne-some b (sym (no-block s e) ∙ whole)
+never-read s e read = getting _ _ read λ b whole p. Option·none-ne-some b (sym (no-block s e) ∙ whole)
+
+pub said-bad : (s : List ℕ) (says : List Entry → Option (Option Entry)) (ordered : List Entry → Bool) (k : List ℕ) → rowsAnswer (rowsOf s) ≡ RowsCase.Bad → Said s says ordered k FoundCase.Bad k
+said-bad s says ordered k e = record { answer = λ es read o. absurd (never-read s e read); buffer = λ es read o. absurd (never-read s e read); inside = refl }
 
 -- ---- reading from a place on
 
@@ -216,26 +213,20 @@ module _ (s : List ℕ) {end count : ℕ} (l : Laid s end count) where
 
 pub told-next : {d : List ℕ} {at : ℕ} {k : List ℕ} {m : ℕ} {k′ : List ℕ} {sh n a v : ℕ} (t : Taken d at k m k′ sh n a v) {key : List ℕ} {r : Found} {key′ : List ℕ}
     → Told d (a + v) (take n k′) firstIn key r key′ → Told d at (take m k) (nextIn at) key r key′
-told-next {d} {at} {k} {m} t {key} w =
-    record {
-      answer = λ es read. let f = taken-first t es read in w .answer (f .rest) (f .onward) ∙ ap (foundAnswer (length key)) (sym (says es read));
-      buffer = λ es read. let f = taken-first t es read in w .buffer (f .rest) (f .onward) ∙ ap (bufferLeft key) (sym (says es read));
-      inside = w .inside;
-    }
-  where
-    says : (es : List Entry) (read : readFrom d at (take m k) ≡ some es) → nextIn at es ≡ firstIn (taken-first t es read .rest)
-    says es read = let f = taken-first t es read in ap (nextIn at) (f .is) ∙ next-here at (t .step .here) (f .rest) (entry-start at (take m k) (drop at d) (t .step .reads))
+unfolding pick firstIn
+told-next {d} {at} {k} {m} t w =
+    told-by
+    (λ es read.
+    let f = taken-first t es read in
+    record { rest = f .rest; reads = f .onward; same = ap (nextIn at) (f .is) ∙ place-here WhichCase.After at (t .step .here) (f .rest) (entry-start at (take m k) (drop at d) (t .step .reads)) })
+    w
 
 -- the entry at the place itself
 pub told-here : (d : List ℕ) (at : ℕ) (before : List ℕ) {key : List ℕ} {r : Found} {key′ : List ℕ} → at < length d → Told d at before firstIn key r key′ → Told d at before (atIn at) key r key′
-told-here d at before {key} inside w =
-    record {
-      answer = λ es read. w .answer es read ∙ ap (foundAnswer (length key)) (sym (says es read));
-      buffer = λ es read. w .buffer es read ∙ ap (bufferLeft key) (sym (says es read));
-      inside = w .inside;
-    }
-  where
-    says : (es : List Entry) → readFrom d at before ≡ some es → atIn at es ≡ firstIn es
-    says es read =
-        let x = read-next d at before read inside in
-        ap (atIn at) (x .is) ∙ at-here at (x .here) (x .rest) (entry-start at before (drop at d) (x .reads)) ∙ ap firstIn (sym (x .is))
+unfolding pick firstIn
+told-here d at before inside w =
+    told-by
+    (λ es read.
+    let x = read-next d at before read inside in
+    record { rest = es; reads = read; same = ap (atIn at) (x .is) ∙ place-here WhichCase.Here at (x .here) (x .rest) (entry-start at before (drop at d) (x .reads)) ∙ ap firstIn (sym (x .is)) })
+    w

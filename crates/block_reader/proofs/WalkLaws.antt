@@ -153,11 +153,16 @@ module _ {d : List ℕ} {from : ℕ} {P : List Entry → List Entry → Type 0} 
         let f = taken-first t (l .rest) (l .reads) in
         hit es (f .rest) (rw (f .is) at (l .same))
 
-pub scan-told : {d : List ℕ} {from : ℕ} {says : List Entry → Option (Option Entry)} {k : List ℕ} {m p : ℕ} (w : Scanning d from (Same says) k m p)
-    {key : List ℕ} {r : Found} {key′ : List ℕ} → Told d p (take m k) says key r key′ → Told d from [] says key r key′
-scan-told w t =
+-- what is said of the entries from one place on, said of those from another
+pub told-by : {d : List ℕ} {at : ℕ} {before : List ℕ} {says : List Entry → Option (Option Entry)} {p : ℕ} {key : List ℕ} {says′ : List Entry → Option (Option Entry)} {k : List ℕ} {r : Found} {k′ : List ℕ}
+    → ((es : List Entry) → readFrom d at before ≡ some es → Left d (λ rest. says es ≡ says′ rest) p key) → Told d p key says′ k r k′ → Told d at before says k r k′
+told-by on t =
     record {
-      answer = λ es read. let l = w .left es read in t .answer (l .rest) (l .reads) ∙ ap (foundAnswer _) (sym (l .same));
-      buffer = λ es read. let l = w .left es read in t .buffer (l .rest) (l .reads) ∙ ap (bufferLeft _) (sym (l .same));
+      answer = λ es read. let l = on es read in t .answer (l .rest) (l .reads) ∙ ap (foundAnswer _) (sym (l .same));
+      buffer = λ es read. let l = on es read in t .buffer (l .rest) (l .reads) ∙ ap (bufferLeft _) (sym (l .same));
       inside = t .inside;
     }
+
+pub scan-told : {d : List ℕ} {from : ℕ} {says : List Entry → Option (Option Entry)} {k : List ℕ} {m p : ℕ} (w : Scanning d from (Same says) k m p)
+    {key : List ℕ} {r : Found} {key′ : List ℕ} → Told d p (take m k) says key r key′ → Told d from [] says key r key′
+scan-told w t = told-by (w .left) t

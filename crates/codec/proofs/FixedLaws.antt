@@ -8,10 +8,13 @@ use native.Mathlib.Omega.{arith}
 use lib.ListN.{length, getD}
 use lib.Seq.{drop-cons}
 use borrow.Author.Tests.{le-leb, lt-leb}
+use Rattle.codec.specs.declared.fixed.U32Read.{U32Read}
 use Rattle.codec.specs.declared.fixed.U32Read.the-variants as U32Case
+use Rattle.codec.specs.declared.fixed.U64Read.{U64Read}
 use Rattle.codec.specs.declared.fixed.U64Read.the-variants as U64Case
 use Rattle.codec.specs.Answers.{u32Answer, u64Answer}
 use Rattle.codec.specs.Bytes.{part, numberOf, numberAt}
+use Rattle.codec.proofs.Prelude.{came-of}
 
 pub number-in : (w : ℕ) (s : List ℕ) (at : ℕ) → at + w ≤ length s → numberAt w s at ≡ some (numberOf (part s at w))
 unfolding numberAt
@@ -46,24 +49,20 @@ module _ (w : ℕ) (s : List ℕ) (at : ℕ) (there : at + w ≤ length s) where
   pub number-there : numberAt w s at ≡ none → ⊥
   number-there e = Option·none-ne-some (numberOf (part s at w)) (sym e ∙ number-in w s at there)
 
--- ---- what an answer says, of 4 bytes and of 8
+-- ---- the number that an answer says, of 4 bytes and of 8
 
-pub no-u32 : (o : Option ℕ) → u32Answer o ≡ U32Case.Bad → o ≡ none
+abbrev pub u32In : U32Read → Option ℕ
+u32In U32Case.Bad = none
+u32In (U32Case.Value x) = some x
+
+abbrev pub u64In : U64Read → Option ℕ
+u64In U64Case.Bad = none
+u64In (U64Case.Value x) = some x
+
+pub u32-said : (o : Option ℕ) {r : U32Read} → u32Answer o ≡ r → o ≡ u32In r
 unfolding u32Answer
-no-u32 none e = refl
-no-u32 (some y) e = cc
+u32-said = came-of u32Answer u32In (λ o. elim o [ none ↦ refl | some x ↦ refl ])
 
-pub a-u32 : (o : Option ℕ) {x : ℕ} → u32Answer o ≡ U32Case.Value x → o ≡ some x
-unfolding u32Answer
-a-u32 none e = cc
-a-u32 (some y) {x} e = let p : y ≡ x = cc in ap some p
-
-pub no-u64 : (o : Option ℕ) → u64Answer o ≡ U64Case.Bad → o ≡ none
+pub u64-said : (o : Option ℕ) {r : U64Read} → u64Answer o ≡ r → o ≡ u64In r
 unfolding u64Answer
-no-u64 none e = refl
-no-u64 (some y) e = cc
-
-pub a-u64 : (o : Option ℕ) {x : ℕ} → u64Answer o ≡ U64Case.Value x → o ≡ some x
-unfolding u64Answer
-a-u64 none e = cc
-a-u64 (some y) {x} e = let p : y ≡ x = cc in ap some p
+u64-said = came-of u64Answer u64In (λ o. elim o [ none ↦ refl | some x ↦ refl ])

@@ -1,6 +1,6 @@
 -- Small general lemmas: tests and their cases.
 use Prim.Native.Nat.{ℕ, _≤_, _<_}
-use mathlib.Core.Path.{_≡_, refl}
+use mathlib.Core.Path.{_≡_, refl, sym, ap, _∙_}
 use mathlib.Core.Bool.{Bool, true, false, _&&_, _||_, not}
 use mathlib.Core.Logic.{_⊎_, inl, inr}
 use native.Mathlib.Decide.{decLt}
@@ -23,6 +23,10 @@ decide false = inr tt
 -- 0 is not 1: what comes of two constructors that would be one
 pub apart {ℓ} : {A : Type ℓ} → _≡_ {A = ℕ} 0 1 → A
 apart e = absurd (omega arith)
+
+-- an answer that can be read back says what it came of
+pub came-of : {A R : Type 0} (f : A → R) (back : R → A) → ((a : A) → back (f a) ≡ a) → (a : A) {r : R} → f a ≡ r → a ≡ back r
+came-of f back same a e = sym (same a) ∙ ap back e
 
 -- ---- `T` and equations
 

@@ -12,7 +12,7 @@ use Rattle.codec.specs.Bytes.{part}
 use Rattle.codec.specs.declared.put.Written.{Written}
 use Rattle.codec.specs.declared.put.Written.the-variants.{At, NoRoom}
 use Rattle.codec.specs.Put.{room, putAnswer, put, Wrote}
-use Rattle.codec.proofs.Prelude.{split}
+use Rattle.codec.proofs.Prelude.{split, apart}
 use Rattle.codec.proofs.BytesLaws.{part-front}
 
 -- ---- with room
@@ -80,8 +80,7 @@ wrote-next d at bs next r e h w p =
 pub wrote-never : (d : List ℕ) (at : ℕ) (bs : List ℕ) (r : Written) (e : List ℕ) → at + length bs ≤ length d → Wrote d at bs r e → r ≡ NoRoom → ⊥
 wrote-never d at bs r e h w p =
     let q : r ≡ At (at + length bs) = w .said ∙ answer-room d at bs h in
-    let z : _≡_ {A = ℕ} 0 1 = cc in
-    omega arith
+    apart cc
 
 -- two writes, the second where the first ended, write both
 pub wrote-then : (d : List ℕ) (at : ℕ) (bs cs : List ℕ) (next : ℕ) (r : Written) (e : List ℕ) (r′ : Written) (e′ : List ℕ)

@@ -7,7 +7,7 @@ use native.Mathlib.Nat.{mod-lt}
 use native.Mathlib.Numerals.{add-one}
 use native.Mathlib.Omega.{arith}
 use lib.Dec.{eqb, lit<}
-use lib.ListN.{length, getD, set, length-take, length-drop}
+use lib.ListN.{length, drop, getD, set, length-take, length-drop}
 use lib.Seq.{drop-cons}
 use borrow.Author.Tests.{eq-eqb, ne-eqb}
 use Rattle.codec.specs.declared.put.Written.{Written}
@@ -49,15 +49,15 @@ unfolding trailerStands
 stands-written pre s post = rw (part-first pre s (trailer s ++ post), part-second-at pre s (trailer s) post 5 (trailer-length s), same-same (trailer s))
 
 module _ (t : List ℕ) (offset size : ℕ) where
+  pub stands-within : trailerStands t offset size ≡ true → offset + size + 5 ≤ length t
+  unfolding trailerStands part
+  stands-within e =
+      let l = ap length (same-bytes (part t (offset + size) 5) (trailer (part t offset size)) (true-is e)) in
+      omega (arith, trailer-length (part t offset size), length-take 5 (drop (offset + size) t), length-drop (offset + size) t)
+
   -- t ends before
   pub stands-short : length t < offset + size + 5 → false ≡ trailerStands t offset size
-  unfolding trailerStands
-  stands-short h =
-      test (sameBytes (part t (offset + size) 5) (trailer (part t offset size)))
-      (λ e.
-      let l : length (part t (offset + size) 5) < 5 = unfold part in simp (length-take, length-drop) (omega arith) in
-      absurd (omega (arith, trailer-length (part t offset size), ap length (same-bytes (part t (offset + size) 5) (trailer (part t offset size)) (true-is e)))))
-      (λ e. sym e)
+  stands-short h = test (trailerStands t offset size) (λ e. absurd (omega (arith, stands-within e))) (λ e. sym e)
 
   module _ (there : offset + size + 5 ≤ length t) where
     -- byte by byte

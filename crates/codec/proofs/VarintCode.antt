@@ -9,12 +9,17 @@ use native.Mathlib.Omega.{arith}
 use lib.Dec.{lit<}
 use lib.ListN.{length, getD, drop, drop-of-length-le}
 use lib.Seq.{drop-cons}
+use Rattle.codec.specs.declared.blockhandle.HandleRead as HandleEnum
 use Rattle.codec.specs.declared.blockhandle.HandleRead.the-variants as HandleCase
+use Rattle.codec.specs.declared.blockhandle.OneHandle.{OneHandle}
 use Rattle.codec.specs.declared.blockhandle.OneHandle.the-variants as OneCase
+use Rattle.codec.specs.declared.varint.VarintRead.{VarintRead}
 use Rattle.codec.specs.declared.varint.VarintRead.the-variants.{Value, Bad}
+use Rattle.codec.specs.Maybe.{_>>=_}
 use Rattle.codec.specs.Varint.{Read, varintFrom, varint, varintBytesF, Handle, HandleRead, handle, oneHandle}
 use Rattle.codec.specs.Answers.{varintAnswer, handleAnswer, oneHandleAnswer}
-use Rattle.codec.proofs.VarintLaws.{read-is, resume, resume-more, from-nil, from-last, from-more, varint-none, varint-over, varint-some, bytes-more, varint-size, handle-size, handle-none, handle-half, handle-some, one-some, one-left, one-none}
+use Rattle.codec.proofs.Prelude.{came-of}
+use Rattle.codec.proofs.VarintLaws.{resume, resume-more, from-nil, from-last, from-more, varint-none, varint-over, varint-some, bytes-more, varint-size, handle-size, handle-half, handle-some, one-some, one-left}
 
 -- ---- reading: what is left at i, after what was read, is all of s
 
@@ -78,87 +83,59 @@ bytes-turn (suc k) x h l = (k, div-lt-iff-lt-mul (lit< tt) .1 (rw (← pow-suc) 
 
 -- ---- what an answer says
 
-module _ (s : List ℕ) where
-  pub no-varint : varintAnswer (varint s) ≡ Bad → varint s ≡ none
-  no-varint = go (varint s)
-    where
-      go : (o : Option Read) → varintAnswer o ≡ Bad → o ≡ none
-      go none e = refl
-      go (some r) e = unfold varintAnswer in cc
+abbrev pub varintIn : VarintRead → Option Read
+varintIn Bad = none
+varintIn (Value v n) = some (record { value = v; size = n })
 
-  pub a-varint : {v n : ℕ} → varintAnswer (varint s) ≡ Value v n → varint s ≡ some (record { value = v; size = n })
-  a-varint {v} {n} = go (varint s)
-    where
-      go : (o : Option Read) → varintAnswer o ≡ Value v n → o ≡ some (record { value = v; size = n })
-      go none e = unfold varintAnswer in cc
-      go (some r) e = unfold varintAnswer in read-is (cc) (cc)
+abbrev pub handleIn : HandleEnum.HandleRead → Option HandleRead
+handleIn HandleCase.Bad = none
+handleIn (HandleCase.Handle v w n) = some (record { handle = record { offset = v; size = w }; size = n })
 
-  pub varint-within : {v n : ℕ} → varintAnswer (varint s) ≡ Value v n → n ≤ length s
-  varint-within e = varint-size s (a-varint e) .there
+abbrev pub oneIn : OneHandle → Option Handle
+oneIn OneCase.Bad = none
+oneIn (OneCase.Handle v w) = some (record { offset = v; size = w })
 
-  pub no-handle : handleAnswer (handle s) ≡ HandleCase.Bad → handle s ≡ none
-  no-handle = go (handle s)
-    where
-      go : (o : Option HandleRead) → handleAnswer o ≡ HandleCase.Bad → o ≡ none
-      go none e = refl
-      go (some r) e = unfold handleAnswer in cc
+pub varint-said : (o : Option Read) {r : VarintRead} → varintAnswer o ≡ r → o ≡ varintIn r
+unfolding varintAnswer
+varint-said = came-of varintAnswer varintIn (λ o. elim o [ none ↦ refl | some r ↦ refl ])
 
-  pub a-handle : {v w n : ℕ} → handleAnswer (handle s) ≡ HandleCase.Handle v w n → handle s ≡ some (record { handle = record { offset = v; size = w }; size = n })
-  a-handle {v} {w} {n} = go (handle s)
-    where
-      go : (o : Option HandleRead) → handleAnswer o ≡ HandleCase.Handle v w n → o ≡ some (record { handle = record { offset = v; size = w }; size = n })
-      go none e = unfold handleAnswer in cc
-      go (some r) e =
-          unfold handleAnswer in
-          let p : r .handle .offset ≡ v = cc in
-          let q : r .handle .size ≡ w = cc in
-          let t : r .size ≡ n = cc in
-          λ i. some (record { handle = record { offset = p i; size = q i }; size = t i })
+pub handle-said : (o : Option HandleRead) {r : HandleEnum.HandleRead} → handleAnswer o ≡ r → o ≡ handleIn r
+unfolding handleAnswer
+handle-said = came-of handleAnswer handleIn (λ o. elim o [ none ↦ refl | some r ↦ refl ])
 
-  pub handle-within : {v w n : ℕ} → handleAnswer (handle s) ≡ HandleCase.Handle v w n → n ≤ length s
-  handle-within e = handle-size s (a-handle e) .there
+pub one-said : (o : Option Handle) {r : OneHandle} → oneHandleAnswer o ≡ r → o ≡ oneIn r
+unfolding oneHandleAnswer
+one-said = came-of oneHandleAnswer oneIn (λ o. elim o [ none ↦ refl | some h ↦ refl ])
 
-  pub no-one : oneHandleAnswer (oneHandle s) ≡ OneCase.Bad → oneHandle s ≡ none
-  no-one = go (oneHandle s)
-    where
-      go : (o : Option Handle) → oneHandleAnswer o ≡ OneCase.Bad → o ≡ none
-      go none e = refl
-      go (some h) e = unfold oneHandleAnswer in cc
+pub varint-within : (s : List ℕ) {v n : ℕ} → varintAnswer (varint s) ≡ Value v n → n ≤ length s
+varint-within s e = varint-size s (varint-said _ e) .there
 
-  pub a-one : {v w : ℕ} → oneHandleAnswer (oneHandle s) ≡ OneCase.Handle v w → oneHandle s ≡ some (record { offset = v; size = w })
-  a-one {v} {w} = go (oneHandle s)
-    where
-      go : (o : Option Handle) → oneHandleAnswer o ≡ OneCase.Handle v w → o ≡ some (record { offset = v; size = w })
-      go none e = unfold oneHandleAnswer in cc
-      go (some h) e =
-          unfold oneHandleAnswer in
-          let p : h .offset ≡ v = cc in
-          let q : h .size ≡ w = cc in
-          λ i. some (record { offset = p i; size = q i })
+pub handle-within : (s : List ℕ) {v w n : ℕ} → handleAnswer (handle s) ≡ HandleCase.Handle v w n → n ≤ length s
+handle-within s e = handle-size s (handle-said _ e) .there
 
 -- ---- a handle by the answers on its two numbers, and one handle by the answer on a handle
 
 module _ (s : List ℕ) where
   pub no-offset : varintAnswer (varint s) ≡ Bad → HandleCase.Bad ≡ handleAnswer (handle s)
-  unfolding handleAnswer
-  no-offset e = rw (handle-none s (no-varint s e))
+  unfolding handleAnswer handle _>>=_
+  no-offset e = rw (varint-said (varint s) e)
 
   pub no-size : {v n : ℕ} → varintAnswer (varint s) ≡ Value v n → varintAnswer (varint (drop n s)) ≡ Bad → HandleCase.Bad ≡ handleAnswer (handle s)
   unfolding handleAnswer
-  no-size {v} {n} e f = rw (handle-half s _ (a-varint s e) (no-varint (drop n s) f))
+  no-size {v} {n} e f = rw (handle-half s _ (varint-said _ e) (varint-said _ f))
 
   pub both : {v n w m : ℕ} → varintAnswer (varint s) ≡ Value v n → varintAnswer (varint (drop n s)) ≡ Value w m → HandleCase.Handle v w (n + m) ≡ handleAnswer (handle s)
   unfolding handleAnswer
-  both {v} {n} e f = rw (handle-some s _ _ (a-varint s e) (a-varint (drop n s) f))
+  both {v} {n} e f = rw (handle-some s _ _ (varint-said _ e) (varint-said _ f))
 
   pub none-there : handleAnswer (handle s) ≡ HandleCase.Bad → OneCase.Bad ≡ oneHandleAnswer (oneHandle s)
-  unfolding oneHandleAnswer
-  none-there e = rw (one-none s (no-handle s e))
+  unfolding oneHandleAnswer oneHandle _>>=_
+  none-there e = rw (handle-said (handle s) e)
 
   pub one-there : {v w n : ℕ} → handleAnswer (handle s) ≡ HandleCase.Handle v w n → n ≡ length s → OneCase.Handle v w ≡ oneHandleAnswer (oneHandle s)
   unfolding oneHandleAnswer
-  one-there e h = rw (one-some s _ (a-handle s e) h)
+  one-there e h = rw (one-some s _ (handle-said _ e) h)
 
   pub more-there : {v w n : ℕ} → handleAnswer (handle s) ≡ HandleCase.Handle v w n → (n ≡ length s → ⊥) → OneCase.Bad ≡ oneHandleAnswer (oneHandle s)
   unfolding oneHandleAnswer
-  more-there e h = rw (one-left s _ (a-handle s e) h)
+  more-there e h = rw (one-left s _ (handle-said _ e) h)

@@ -154,10 +154,6 @@ handle-size s {r} p =
     let sb = varint-size (drop (a .size) s) rb in
     record { some-byte = omega arith; there = omega (arith, length-drop (a .size) s) }
 
-pub handle-none : (s : List ℕ) → varint s ≡ none → handle s ≡ none
-unfolding handle _>>=_
-handle-none s e = rw e
-
 pub handle-half : (s : List ℕ) (a : Read) → varint s ≡ some a → varint (drop (a .size) s) ≡ none → handle s ≡ none
 unfolding handle _>>=_
 handle-half s a e g = cc
@@ -186,10 +182,6 @@ one-some s r e h = cc (eq-eqb (r .size) (length s) h)
 pub one-left : (s : List ℕ) (r : HandleRead) → handle s ≡ some r → (r .size ≡ length s → ⊥) → oneHandle s ≡ none
 unfolding oneHandle _>>=_ ask
 one-left s r e h = cc (ne-eqb (r .size) (length s) h)
-
-pub one-none : (s : List ℕ) → handle s ≡ none → oneHandle s ≡ none
-unfolding oneHandle _>>=_
-one-none s e = rw e
 
 pub one-handle : (h : Handle) → Fits h → oneHandle (handleBytes h) ≡ some h
 one-handle h f = one-some (handleBytes h) (record { handle = h; size = length (handleBytes h) }) (rw append-nil at (handle-bytes h [] f)) refl

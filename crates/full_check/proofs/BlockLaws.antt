@@ -1,24 +1,24 @@
--- A block in a table: where its entries end, that it is well formed, and that its trailer stands inside the table.
+-- A block in a table: where its entries end, that it is well formed, and that its keys rise.
 use Prim.Native.Nat.{ℕ, _+_, _-_, _≤_}
 use mathlib.Core.Path.{_≡_, refl, sym, ap, _∙_}
 use mathlib.Core.Bool.{Bool, true, false, false≢true}
 use mathlib.Core.List.{List, []}
-use mathlib.Core.Option.{Option, none, some, Option·none-ne-some}
+use mathlib.Core.Option.{Option, none, some}
 use native.Mathlib.Omega.{arith}
-use lib.ListN.{length, take, drop, length-take, length-drop}
+use lib.ListN.{length, take, drop}
 use Rattle.codec.specs.Bytes.{part}
-use Rattle.codec.specs.Checksum.{sealOf, trailer, trailerStands}
-use Rattle.codec.proofs.BytesLaws.{same-bytes, bytes-length, part-between}
-use Rattle.codec.proofs.MaybeLaws.{getting}
-use Rattle.codec.proofs.Prelude.{is-true, true-is}
+use Rattle.codec.specs.Checksum.{trailerStands}
+use Rattle.codec.proofs.BytesLaws.{part-between}
+use Rattle.codec.proofs.TrailerLaws.{stands-within}
+use Rattle.codec.proofs.Prelude.{is-true}
 use Rattle.block_reader.specs.declared.block.RowsRead.the-variants as RowsCase
 use Rattle.blocks.specs.Block.{Entry, pairsOf}
 use Rattle.blocks.specs.Formed.{Kind, wellFormed, isFormed, rises}
 use Rattle.blocks.specs.Search.{readable}
 use Rattle.block_reader.specs.Steps.{Rows, rowsOf, rowsAnswer, Laid, readFrom}
 use Rattle.blocks.proofs.FormedLaws.{formed-readable}
-use Rattle.block_reader.proofs.LayoutLaws.{laid, no-block}
-use Rattle.block_reader.proofs.SeekLaws.{read-whole}
+use Rattle.block_reader.proofs.LayoutLaws.{rows-said, laid}
+use Rattle.block_reader.proofs.SeekLaws.{never-read, read-whole}
 use Rattle.table.specs.Checked.{Checked, pass, refuse, _>>=_, ask, orRefuse}
 use Rattle.table.specs.Table.{contents, sealed, lessOf, sortedIn, sortedAt}
 use Rattle.table.proofs.CheckedLaws.{passing, asking, orRefuse-pass, pass-same}
@@ -27,42 +27,22 @@ use Rattle.full_check.specs.Steps.{endOf, Judged}
 
 -- ---- where the entries end
 
-endBy : Option Rows → ℕ
-endBy none = 0
-endBy (some w) = w .end
-
-end-by : (s : List ℕ) → endOf s ≡ endBy (rowsOf s)
-unfolding endOf endBy
-end-by s = go (rowsOf s)
-  where
-    go : (o : Option Rows) → elim o as (λ (_ : Option Rows). ℕ) [ none ↦ 0 | some w ↦ w .end ] ≡ endBy o
-    go none = refl
-    go (some w) = refl
-
 pub end-none : (s : List ℕ) → rowsAnswer (rowsOf s) ≡ RowsCase.Bad → 0 ≡ endOf s
-unfolding endBy rowsAnswer
-end-none s e = sym (end-by s ∙ go (rowsOf s) e)
-  where
-    go : (o : Option Rows) → rowsAnswer o ≡ RowsCase.Bad → endBy o ≡ 0
-    go none e = refl
-    go (some w) e = cc
+unfolding endOf
+end-none s e = rw (rows-said (rowsOf s) e, endOf)
 
 pub end-rows : (s : List ℕ) {end count : ℕ} → rowsAnswer (rowsOf s) ≡ RowsCase.Rows end count → end ≡ endOf s
-unfolding endBy rowsAnswer
-end-rows s {end} {count} e = sym (end-by s ∙ go (rowsOf s) e)
-  where
-    go : (o : Option Rows) → rowsAnswer o ≡ RowsCase.Rows end count → endBy o ≡ end
-    go none e = cc
-    go (some w) e = cc
+unfolding endOf
+end-rows s e = rw (rows-said (rowsOf s) e, endOf)
 
 -- a layout, where there is one
 with-rows : {C : Type 0} (s : List ℕ) → (rowsAnswer (rowsOf s) ≡ RowsCase.Bad → C) → ((w : Rows) → Laid s (w .end) (w .count) → endOf s ≡ w .end → C) → C
-unfolding rowsAnswer endBy
+unfolding rowsAnswer endOf
 with-rows {C} s f g = go (rowsOf s) refl
   where
     go : (o : Option Rows) → rowsOf s ≡ o → C
     go none e = f (ap rowsAnswer e)
-    go (some w) e = g w (laid s (ap rowsAnswer e)) (end-by s ∙ ap endBy e)
+    go (some w) e = g w (laid s (ap rowsAnswer e)) (rw (e, endOf))
 
 pub end-within : (s : List ℕ) → endOf s ≤ length s
 end-within s =
@@ -72,10 +52,9 @@ end-within s =
 
 -- so these are the entries
 pub end-reads : (s : List ℕ) {es : List Entry} → readable s ≡ some es → readFrom (take (endOf s) s) 0 [] ≡ some es
-unfolding readable
 end-reads s {es} read =
     with-rows s
-    (λ e. getting _ _ read λ b whole p. absurd (Option·none-ne-some b (sym (no-block s e) ∙ whole)))
+    (λ e. absurd (never-read s e read))
     (λ w l e. rw e (read-whole s l read))
 
 -- ---- well-formed blocks
@@ -105,14 +84,6 @@ not-formed kind s f = go (wellFormed kind s) refl f
     go : (o : Option (List Entry)) → wellFormed kind s ≡ o → elim o as (λ (_ : Option (List Entry)). Bool) [ none ↦ false | some es ↦ true ] ≡ false → wellFormed kind s ≡ none
     go none e f = e
     go (some es) e f = absurd (false≢true (sym f))
-
--- ---- a block with its trailer
-
-pub stands-within : (t : List ℕ) (offset size : ℕ) → trailerStands t offset size ≡ true → offset + size + 5 ≤ length t
-unfolding trailerStands trailer part
-stands-within t offset size e =
-    let l = ap length (same-bytes (part t (offset + size) 5) (trailer (part t offset size)) (true-is e)) in
-    omega (arith, l, bytes-length 4 (sealOf (part t offset size)), length-take 5 (drop (offset + size) t), length-drop (offset + size) t)
 
 -- ---- metaindex and index
 

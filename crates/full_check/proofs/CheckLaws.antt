@@ -8,6 +8,7 @@ use lib.ListN.{length, take, drop}
 use Rattle.codec.specs.Checksum.{trailerStands}
 use Rattle.codec.specs.Varint.{Handle}
 use Rattle.codec.proofs.BytesLaws.{part-between}
+use Rattle.codec.proofs.Prelude.{came-of}
 use Rattle.keys.specs.Order.{userOf, below}
 use Rattle.block_reader.specs.declared.block.Kind.the-variants as KindCase
 use Rattle.blocks.specs.Block.{Pair, Entry, lastKeyOf, pairsOf}
@@ -16,11 +17,12 @@ use Rattle.block_reader.specs.Said.{kindOf}
 use Rattle.filters.specs.Filter.{hash}
 use Rattle.filters.specs.FilterBlock.{filterFormed, mayMatch}
 use Rattle.table_block.specs.declared.footer.FooterRead.the-variants as FooterCase
+use Rattle.table_block.specs.declared.table_block.FilterRead.{FilterRead}
 use Rattle.table_block.specs.declared.table_block.FilterRead.the-variants as FilterCase
 use Rattle.table_block.specs.Answers.{footerAnswer, bloomAnswer}
 use Rattle.table.specs.Checked.{Checked, pass, refuse, _>>=_, ask}
 use Rattle.table.specs.Table.{endsBefore, placed, Footer, footer, contents, sealed, blockOf, sortedAt, bloomHandle, filterOf, mayHold, opened, Edge, firstFollows, handleOf, dataBlockOf, dataBlocksOf, fullCheck}
-use Rattle.table_block.proofs.FooterLaws.{no-footer, a-footer}
+use Rattle.table_block.proofs.FooterLaws.{footer-said}
 use Rattle.full_check.specs.declared.check.Verdict.the-variants as VerdictCase
 use Rattle.full_check.specs.Answers.{verdictOf}
 use Rattle.full_check.specs.Steps.{ordered, filterBytes, lets, dataIn, dataAt, blocksAt, withFilter, afterFooter}
@@ -100,17 +102,13 @@ module _ (t : List ℕ) (ixs : List Pair) where
         filter-stands e = rw (p, q, ← part-between t offset size, e) (blocks-same t (some (take (offset + size - offset) (drop offset t))) none ixs)
 
 -- what the metaindex names
-pub names-none : (o : Option Handle) → bloomAnswer o ≡ FilterCase.None → o ≡ none
-names-none none e = refl
-names-none (some h) e = unfold bloomAnswer in cc
+abbrev pub bloomIn : FilterRead → Option Handle
+bloomIn FilterCase.None = none
+bloomIn (FilterCase.Handle a b) = some (record { offset = a; size = b })
 
-pub names-some : (o : Option Handle) {a b : ℕ} → bloomAnswer o ≡ FilterCase.Handle a b → o ≡ some (record { offset = a; size = b })
-names-some none e = unfold bloomAnswer in cc
-names-some (some h) {a} {b} e =
-    unfold bloomAnswer in
-    let p : h .offset ≡ a = cc in
-    let q : h .size ≡ b = cc in
-    λ i. some (record { offset = p i; size = q i })
+pub bloom-said : (o : Option Handle) {r : FilterRead} → bloomAnswer o ≡ r → o ≡ bloomIn r
+unfolding bloomAnswer
+bloom-said = came-of bloomAnswer bloomIn (λ o. elim o [ none ↦ refl | some h ↦ refl ])
 
 -- ---- metaindex and index
 
@@ -141,8 +139,8 @@ full-by t =
 module _ (t : List ℕ) where
   pub footer-refused : {n : ℕ} → footerAnswer (footer t) ≡ FooterCase.Refused n → VerdictCase.Refused n ≡ verdictOf (fullCheck t)
   unfolding _>>=_
-  footer-refused e = refused (full-by t ∙ ap (λ (c : Checked Footer). c >>= (λ ft. afterFooter t (ft .metaindex) (ft .index))) (no-footer t e))
+  footer-refused e = refused (full-by t ∙ ap (λ (c : Checked Footer). c >>= (λ ft. afterFooter t (ft .metaindex) (ft .index))) (footer-said (footer t) e))
 
   pub footer-read : {a b c d : ℕ} → footerAnswer (footer t) ≡ FooterCase.Footer a b c d → afterFooter t (record { offset = a; size = b }) (record { offset = c; size = d }) ≡ fullCheck t
   unfolding _>>=_
-  footer-read e = sym (full-by t ∙ ap (λ (c : Checked Footer). c >>= (λ ft. afterFooter t (ft .metaindex) (ft .index))) (a-footer t e))
+  footer-read e = sym (full-by t ∙ ap (λ (c : Checked Footer). c >>= (λ ft. afterFooter t (ft .metaindex) (ft .index))) (footer-said (footer t) e))

@@ -1,7 +1,7 @@
 -- The keys of a block, one entry at a time: that they rise, and that a filter lets them through.
 use Prim.Native.Nat.{ℕ, _<_}
 use mathlib.Core.Path.{_≡_, refl, ap, _∙_}
-use mathlib.Core.Bool.{Bool, true, false, _&&_}
+use mathlib.Core.Bool.{Bool, true, false, _&&_, not}
 use mathlib.Core.List.{List, [], _∷_}
 use mathlib.Core.Option.{Option, some}
 use native.Mathlib.Omega.{arith}
@@ -11,7 +11,7 @@ use borrow.Author.Tests.{ne-eqb}
 use Rattle.codec.specs.declared.blockhandle.OneHandle.the-variants as OneCase
 use Rattle.codec.specs.Answers.{oneHandleAnswer}
 use Rattle.codec.specs.Varint.{Handle, oneHandle}
-use Rattle.codec.proofs.VarintCode.{no-one, a-one}
+use Rattle.codec.proofs.VarintCode.{one-said}
 use Rattle.codec.proofs.Prelude.{split}
 use Rattle.keys.specs.Order.{userOf, pointOf, byPoint, bytesBelow, below}
 use Rattle.block_reader.specs.declared.block.EntryRead.the-variants as EntryCase
@@ -34,18 +34,9 @@ pub after-first : (kind : Kind) {first : Bool} (a b : List ℕ) → first ≡ tr
 unfolding after
 after-first kind a b f = rw f
 
-module _ {kind : KindEnum.Kind} {first : Bool} (a b : List ℕ) (f : first ≡ false) where
-  pub after-data : kind ≡ KindCase.Data → below a b ≡ after (kindOf kind) first a b
-  unfolding after kindOf lessOf
-  after-data e = rw (f, e)
-
-  pub after-index : kind ≡ KindCase.Index → below a b ≡ after (kindOf kind) first a b
-  unfolding after kindOf lessOf
-  after-index e = rw (f, e)
-
-  pub after-meta : kind ≡ KindCase.Metaindex → bytesBelow a b ≡ after (kindOf kind) first a b
-  unfolding after kindOf lessOf
-  after-meta e = rw (f, e)
+pub after-next : {kind k : KindEnum.Kind} {first : Bool} (a b : List ℕ) {r : Bool} → first ≡ false → kind ≡ k → r ≡ lessOf (kindOf k) a b → r ≡ after (kindOf kind) first a b
+unfolding after
+after-next a b f e p = p ∙ rw (f, e)
 
 -- ---- keys that rise
 
@@ -87,14 +78,9 @@ module _ (s : List ℕ) (offset : ℕ) where
   unfolding all
   held-end = refl
 
-  module _ (e : Entry) (rest : List Entry) where
-    pub held-more : mayMatch s offset (hash (userOf (e .key))) ≡ true → all (lets s offset) (pairsOf (e ∷ rest)) ≡ all (lets s offset) (pairsOf rest)
-    unfolding all lets
-    held-more f = rw f
-
-    pub held-stop : mayMatch s offset (hash (userOf (e .key))) ≡ false → all (lets s offset) (pairsOf (e ∷ rest)) ≡ false
-    unfolding all lets
-    held-stop f = rw f
+  pub held-next : (e : Entry) (rest : List Entry) (r : Bool) → mayMatch s offset (hash (userOf (e .key))) ≡ r → all (lets s offset) (pairsOf (e ∷ rest)) ≡ r && all (lets s offset) (pairsOf rest)
+  unfolding all lets
+  held-next e rest r f = rw f
 
 -- ---- a block after the one before it
 
@@ -146,20 +132,16 @@ module _ (before : Option Edge) (ix : List ℕ) (ps : List Pair) where
     ordered-falls b = rw (a, b)
 
     module _ (b : rises (lessOf (kindOf KindCase.Data)) ps ≡ true) {k : List ℕ} (l : lastKeyOf [] ps ≡ k) where
-      pub ordered-index : below ix k ≡ true → ordered before ix ps ≡ false
+      pub ordered-last : (r : Bool) → below ix k ≡ r → ordered before ix ps ≡ not r
       unfolding ordered lessOf kindOf
-      ordered-index e = rw (a, b, l, e)
-
-      pub ordered-all : below ix k ≡ false → ordered before ix ps ≡ true
-      unfolding ordered lessOf kindOf
-      ordered-all e = rw (a, b, l, e)
+      ordered-last r e = rw (a, b, l, e)
 
 -- ---- an index value
 
 pub handle-bad : (s : List ℕ) → oneHandleAnswer (oneHandle s) ≡ OneCase.Bad → (0 ≡ handleOf s .offset) × (0 ≡ handleOf s .size)
 unfolding handleOf
-handle-bad s e = rw (no-one s e, handleOf) (refl, refl)
+handle-bad s e = rw (one-said (oneHandle s) e, handleOf) (refl, refl)
 
 pub handle-is : (s : List ℕ) {a b : ℕ} → oneHandleAnswer (oneHandle s) ≡ OneCase.Handle a b → (a ≡ handleOf s .offset) × (b ≡ handleOf s .size)
 unfolding handleOf
-handle-is s e = rw (a-one s e, handleOf) (refl, refl)
+handle-is s e = rw (one-said (oneHandle s) e, handleOf) (refl, refl)

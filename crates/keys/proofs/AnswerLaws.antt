@@ -8,6 +8,7 @@ use lib.ListN.{length, drop, getD, length-drop}
 use lib.Seq.{drop-cons}
 use borrow.Author.Tests.{lt-ltb, le-ltb}
 use Rattle.codec.specs.Bytes.{part, bytesOf, numberOf}
+use Rattle.codec.proofs.Prelude.{came-of}
 use Rattle.codec.proofs.Lists.{Below, below-drop}
 use Rattle.codec.proofs.BytesLaws.{part-end, bytes-above, number-below}
 use Rattle.keys.specs.declared.cmp.Ordering as OrderingEnum
@@ -19,35 +20,22 @@ use Rattle.keys.specs.Order.{isLess, andThen, byBytes, userOf, tagOf, se
 
 -- ---- comparisons
 
-pub less-is : (o : Ordering) → orderAnswer o ≡ Less → o ≡ Ordering·lt
-unfolding orderAnswer
-less-is Ordering·lt e = refl
-less-is Ordering·eq e = cc
-less-is Ordering·gt e = cc
+-- the order that an answer says
+abbrev pub orderIn : OrderingEnum.Ordering → Ordering
+orderIn Less = Ordering·lt
+orderIn Equal = Ordering·eq
+orderIn Greater = Ordering·gt
 
-pub says-less : (o : Ordering) → saysLess (orderAnswer o) ≡ isLess o
+pub order-said : (o : Ordering) {r : OrderingEnum.Ordering} → orderAnswer o ≡ r → o ≡ orderIn r
 unfolding orderAnswer
-says-less Ordering·lt = refl
-says-less Ordering·eq = refl
-says-less Ordering·gt = refl
+order-said = came-of orderAnswer orderIn (λ o. elim o [ Ordering·lt ↦ refl | Ordering·eq ↦ refl | Ordering·gt ↦ refl ])
 
-pub says-equal : (o : Ordering) → saysEqual (orderAnswer o) ≡ isEq o
+-- "less" and "equal" are said of what is so
+pub says-order : (o : Ordering) → (saysLess (orderAnswer o) ≡ isLess o) × (saysEqual (orderAnswer o) ≡ isEq o)
 unfolding orderAnswer
-says-equal Ordering·lt = refl
-says-equal Ordering·eq = refl
-says-equal Ordering·gt = refl
-
-pub equal-is : (o : Ordering) → orderAnswer o ≡ Equal → o ≡ Ordering·eq
-unfolding orderAnswer
-equal-is Ordering·lt e = cc
-equal-is Ordering·eq e = refl
-equal-is Ordering·gt e = cc
-
-pub greater-is : (o : Ordering) → orderAnswer o ≡ Greater → o ≡ Ordering·gt
-unfolding orderAnswer
-greater-is Ordering·lt e = cc
-greater-is Ordering·eq e = cc
-greater-is Ordering·gt e = refl
+says-order Ordering·lt = (refl, refl)
+says-order Ordering·eq = (refl, refl)
+says-order Ordering·gt = (refl, refl)
 
 -- a key against a target: the words decide, or where they are equal the sequences
 module _ (k w : List ℕ) (s : ℕ) {u : List ℕ} (isU : u ≡ userOf k) where
@@ -55,17 +43,13 @@ module _ (k w : List ℕ) (s : ℕ) {u : List ℕ} (isU : u ≡ userOf k) where
   unfolding byPoint seqOf
   by-word e = rw (← e, isU)
 
-  pub target-less : orderAnswer (byBytes u w) ≡ Less → Less ≡ orderAnswer (byPoint (pointOf k) (record { word = w; edition = s }))
-  unfolding orderAnswer
-  target-less e = by-word (less-is (byBytes u w) e)
-
-  pub target-greater : orderAnswer (byBytes u w) ≡ Greater → Greater ≡ orderAnswer (byPoint (pointOf k) (record { word = w; edition = s }))
-  unfolding orderAnswer
-  target-greater e = by-word (greater-is (byBytes u w) e)
+  pub target-word : {r : OrderingEnum.Ordering} → orderAnswer (byBytes u w) ≡ r → orderIn r ≡ andThen (orderIn r) (compare s (tagOf k / 256))
+      → r ≡ orderAnswer (byPoint (pointOf k) (record { word = w; edition = s }))
+  target-word e p = sym e ∙ ap orderAnswer (order-said (byBytes u w) e ∙ p) ∙ by-word (order-said (byBytes u w) e)
 
   pub target-equal : {t : ℕ} {r : OrderingEnum.Ordering} → orderAnswer (byBytes u w) ≡ Equal → t ≡ tagOf k → r ≡ orderAnswer (compare s (t / 256))
       → r ≡ orderAnswer (byPoint (pointOf k) (record { word = w; edition = s }))
-  target-equal e q p = p ∙ rw q (by-word (equal-is (byBytes u w) e))
+  target-equal e q p = p ∙ rw q (by-word (order-said (byBytes u w) e))
 
 -- ---- kinds
 

@@ -46,24 +46,18 @@ module _ (f : List ℕ) (x : ℕ) (r b : List ℕ) (h : length f < length b) whe
       bytes-parts (length f) (f ++ (x ∷ r)) b (omega (arith, length-append f (x ∷ r))) (omega arith)
       ∙ rw (take-append-seam f (x ∷ r), drop-append-seam f (x ∷ r), drop-cons b (length f) 0 h, add-one (length f))
 
-  module _ {o : Ordering} (e : byBytes f (take (length f) b) ≡ o) where
-    at-front : bytesBelow (f ++ (x ∷ r)) b ≡ isLess (andThen o (andThen (compare x (getD b (length f) 0)) (byBytes r (drop (length f + 1) b))))
-    unfolding bytesBelow
-    at-front = rw (joined-order, e)
-
-  pub joined-less : byBytes f (take (length f) b) ≡ Ordering·lt → true ≡ bytesBelow (f ++ (x ∷ r)) b
-  joined-less e = sym (at-front e)
-
-  pub joined-greater : byBytes f (take (length f) b) ≡ Ordering·gt → false ≡ bytesBelow (f ++ (x ∷ r)) b
-  joined-greater e = sym (at-front e)
+  pub joined-front : {o : Ordering} {t : Bool} → byBytes f (take (length f) b) ≡ o
+      → t ≡ isLess (andThen o (andThen (compare x (getD b (length f) 0)) (byBytes r (drop (length f + 1) b)))) → t ≡ bytesBelow (f ++ (x ∷ r)) b
+  unfolding bytesBelow
+  joined-front e p = p ∙ sym (rw (joined-order, e))
 
   module _ (e : byBytes f (take (length f) b) ≡ Ordering·eq) where
     pub joined-back : x ≡ getD b (length f) 0 → bytesBelow r (drop (length f + 1) b) ≡ bytesBelow (f ++ (x ∷ r)) b
     unfolding bytesBelow
-    joined-back q = sym (at-front e ∙ rw (compare-is x (getD b (length f) 0) q))
+    joined-back q = joined-front e (rw (compare-is x (getD b (length f) 0) q))
 
     pub joined-byte : (x ≡ getD b (length f) 0 → ⊥) → ltb x (getD b (length f) 0) ≡ bytesBelow (f ++ (x ∷ r)) b
-    joined-byte d = sym (at-front e ∙ apart x (getD b (length f) 0) (byBytes r (drop (length f + 1) b)) d)
+    joined-byte d = joined-front e (sym (apart x (getD b (length f) 0) (byBytes r (drop (length f + 1) b)) d))
       where
         apart : (x y : ℕ) (p : Ordering) → (x ≡ y → ⊥) → isLess (andThen (compare x y) p) ≡ ltb x y
         apart x y p d =
@@ -213,18 +207,13 @@ sep-above [] b h = refl
 sep-above (x ∷ a) b h = rw (h, userSep)
 
 -- the key itself where a test fails
-abbrev sep-or : List ℕ → List ℕ → Bool → List ℕ
-sep-or s a t = elim t [ true ↦ s | false ↦ a ]
+abbrev pub sepOr : List ℕ → List ℕ → Bool → List ℕ
+sepOr s a t = elim t [ true ↦ s | false ↦ a ]
 
-pub sep-reaches : (a b : List ℕ) → bytesBelow a b ≡ true → bytesBelow (shortestSep a b) b ≡ false → a ≡ userSep a b
+pub sep-chosen : (a b : List ℕ) (t : Bool) → 0 < length a → bytesBelow a b ≡ true → bytesBelow (shortestSep a b) b ≡ t → sepOr (shortestSep a b) a t ≡ userSep a b
 unfolding userSep
-sep-reaches [] b h k = refl
-sep-reaches (x ∷ a) b h k = sym (ap (sep-or (shortestSep (x ∷ a) b) (x ∷ a)) (ap₂ _&&_ h k))
-
-pub sep-shortest : (a b : List ℕ) → 0 < length a → bytesBelow a b ≡ true → bytesBelow (shortestSep a b) b ≡ true → shortestSep a b ≡ userSep a b
-unfolding userSep
-sep-shortest [] b l h k = absurd (omega arith)
-sep-shortest (x ∷ a) b l h k = sym (ap (sep-or (shortestSep (x ∷ a) b) (x ∷ a)) (ap₂ _&&_ h k))
+sep-chosen [] b t l h k = absurd (omega arith)
+sep-chosen (x ∷ a) b t l h k = sym (ap (sepOr (shortestSep (x ∷ a) b) (x ∷ a)) (ap₂ _&&_ h k))
 
 -- ---- what a plan says
 

@@ -22,7 +22,7 @@ use Rattle.table.specs.Reads
 use Rattle.table.specs.Reads.{Answer, refused, pointFits, seekSays, lookupSays, stepSays, listed, bufferAfter}
 use Rattle.table.specs.Runs.{overlay}
 use Rattle.table.proofs.OverlayLaws.{overlay-none, overlay-put}
-use Rattle.table_block.proofs.FooterLaws.{no-footer, a-footer}
+use Rattle.table_block.proofs.FooterLaws.{footer-said}
 use Rattle.table.proofs.CheckedLaws.{refuse-pass}
 use Rattle.reader.specs.declared.table_reader.Entry.{Entry}
 use Rattle.reader.specs.declared.table_reader.Found as FoundEnum
@@ -94,10 +94,10 @@ step-two t i at k l = record { answer = refused 2; shown = refl; is = record { t
 -- ---- the footer
 
 pub footer-named : (t : List ℕ) {a b c d : ℕ} → footerAnswer (footer t) ≡ FooterCase.Footer a b c d → Named t a b
-footer-named t {a} {b} {c} {d} e = record { foot = record { metaindex = record { offset = a; size = b }; index = record { offset = c; size = d } }; reads = a-footer t e; metaindex = refl }
+footer-named t {a} {b} {c} {d} e = record { foot = record { metaindex = record { offset = a; size = b }; index = record { offset = c; size = d } }; reads = footer-said (footer t) e; metaindex = refl }
 
 pub footer-indexed : (t : List ℕ) {a b c d : ℕ} → footerAnswer (footer t) ≡ FooterCase.Footer a b c d → Indexed t c d
-footer-indexed t {a} {b} {c} {d} e = record { foot = record { metaindex = record { offset = a; size = b }; index = record { offset = c; size = d } }; reads = a-footer t e; index = refl }
+footer-indexed t {a} {b} {c} {d} e = record { foot = record { metaindex = record { offset = a; size = b }; index = record { offset = c; size = d } }; reads = footer-said (footer t) e; index = refl }
 
 -- a refusal of the footer is 7 or 8
 abbrev Fair : List ℕ → Checked Footer → Type 0
@@ -139,11 +139,11 @@ module _ (t : List ℕ) (k : List ℕ) (l : 1032 ≤ length k) where
   module _ {n : ℕ} (e : footerAnswer (footer t) ≡ FooterCase.Refused n) where
     pub footed : (p : Point) {says : Answer} → pointFits p ≡ true → Reads.Sought t p says k (refused n) k
     unfolding bufferAfter
-    footed p {says} f = tabled t p f l (of-refused t says (no-footer t e)) refl
+    footed p {says} f = tabled t p f l (of-refused t says (footer-said (footer t) e)) refl
 
     pub step-footed : (i at : ℕ) → Steps t i at k (SoughtCase.Refused n) k
     unfolding soughtOf bufferAfter
-    step-footed i at = record { answer = refused n; shown = refl; is = record { two = λ m. absurd (omega arith); table = λ m. of-refused t (stepSays t i at) (no-footer t e); buffer = refl } }
+    step-footed i at = record { answer = refused n; shown = refl; is = record { two = λ m. absurd (omega arith); table = λ m. of-refused t (stepSays t i at) (footer-said (footer t) e); buffer = refl } }
 
   module _ {offset size : ℕ} (i : Indexed t offset size) {r q : Sought} {b k′ : List ℕ} (same : q ≡ r) (handed : (a : Answer) → r ≡ soughtOf a → Holds a b → k′ ≡ bufferAfter a k) where
     pub seek-found : (p : Point) → pointFits p ≡ true → Tells soughtOf t (Is t (seekSays t p)) r b → Seeks t p k q k′

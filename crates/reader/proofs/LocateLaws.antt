@@ -9,7 +9,7 @@ use Rattle.codec.specs.declared.blockhandle.OneHandle.the-variants as OneCase
 use Rattle.codec.specs.Answers.{oneHandleAnswer}
 use Rattle.codec.specs.Bytes.{part}
 use Rattle.codec.specs.Varint.{Handle, oneHandle}
-use Rattle.codec.proofs.VarintCode.{no-one, a-one}
+use Rattle.codec.proofs.VarintCode.{one-said}
 use Rattle.codec.proofs.Lists.{all-mem}
 use Rattle.codec.proofs.Prelude.{test, apart}
 use Rattle.block_reader.specs.declared.block.Found.{Found}
@@ -33,16 +33,16 @@ use Rattle.reader.proofs.HitLaws.{Picks, Asks, readable-tells, room}
 module _ (len start : ℕ) (s : List ℕ) where
   pub not-located : oneHandleAnswer (oneHandle s) ≡ OneCase.Bad → LocatedCase.Refused 10 ≡ byHandle len start (oneHandle s)
   unfolding byHandle
-  not-located e = rw (no-one s e)
+  not-located e = rw (one-said (oneHandle s) e)
 
   module _ {a b : ℕ} (e : oneHandleAnswer (oneHandle s) ≡ OneCase.Handle a b) where
     pub handle-in : endsBefore len a b ≡ true → LocatedCase.Block start a b ≡ byHandle len start (oneHandle s)
     unfolding byHandle
-    handle-in p = rw (a-one s e, byHandle, p)
+    handle-in p = rw (one-said (oneHandle s) e, byHandle, p)
 
     pub handle-out : endsBefore len a b ≡ false → LocatedCase.Refused 8 ≡ byHandle len start (oneHandle s)
     unfolding byHandle
-    handle-out p = rw (a-one s e, byHandle, p)
+    handle-out p = rw (one-said (oneHandle s) e, byHandle, p)
 
 -- ---- what it can come to
 

@@ -1,21 +1,19 @@
 -- The filter block's handle, entry by entry.
 use Prim.Native.Nat.{ℕ}
-use mathlib.Core.Path.{_≡_, refl, sym, _∙_}
+use mathlib.Core.Path.{_≡_, refl}
 use mathlib.Core.Bool.{true, false}
 use mathlib.Core.List.{List, [], _∷_}
-use mathlib.Core.Option.{Option, Option·none-ne-some}
+use mathlib.Core.Option.{Option}
 use Rattle.codec.specs.declared.blockhandle.OneHandle.the-variants as OneCase
 use Rattle.codec.specs.Answers.{oneHandleAnswer}
 use Rattle.codec.specs.Bytes.{sameBytes}
 use Rattle.codec.specs.Varint.{Handle, oneHandle}
-use Rattle.codec.proofs.VarintCode.{no-one, a-one}
-use Rattle.codec.proofs.MaybeLaws.{getting}
+use Rattle.codec.proofs.VarintCode.{one-said}
 use Rattle.block_reader.specs.declared.block.RowsRead.the-variants as RowsCase
 use Rattle.blocks.specs.Block.{Entry, pairsOf}
 use Rattle.blocks.specs.Formed.{bloomName}
-use Rattle.blocks.specs.Search.{readable}
 use Rattle.block_reader.specs.Steps.{rowsOf, rowsAnswer}
-use Rattle.block_reader.proofs.LayoutLaws.{no-block}
+use Rattle.block_reader.proofs.SeekLaws.{never-read}
 use Rattle.table_block.specs.declared.table_block.FilterRead.{FilterRead}
 use Rattle.table_block.specs.declared.table_block.FilterRead.the-variants as FilterCase
 use Rattle.table_block.specs.Answers.{bloomAnswer, BloomRead}
@@ -25,11 +23,11 @@ use Rattle.table.specs.Table.{bloomHandle}
 
 pub value-none : (s : List ℕ) → oneHandleAnswer (oneHandle s) ≡ OneCase.Bad → FilterCase.None ≡ bloomAnswer (oneHandle s)
 unfolding bloomAnswer
-value-none s e = rw (no-one s e)
+value-none s e = rw (one-said (oneHandle s) e)
 
 pub value-some : (s : List ℕ) {a b : ℕ} → oneHandleAnswer (oneHandle s) ≡ OneCase.Handle a b → FilterCase.Handle a b ≡ bloomAnswer (oneHandle s)
 unfolding bloomAnswer
-value-some s e = rw (a-one s e)
+value-some s e = rw (one-said (oneHandle s) e)
 
 -- ---- the entries
 
@@ -52,5 +50,4 @@ module _ (e : Entry) (rest : List Entry) where
 
 -- without a layout nothing can be read
 pub bloom-bad : (s : List ℕ) (r : FilterRead) → rowsAnswer (rowsOf s) ≡ RowsCase.Bad → BloomRead s r
-unfolding readable
-bloom-bad s r e = record { answer = λ es read. getting _ _ read λ b whole p. absurd (Option·none-ne-some b (sym (no-block s e) ∙ whole)) }
+bloom-bad s r e = record { answer = λ es read. absurd (never-read s e read) }

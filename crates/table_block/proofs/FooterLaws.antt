@@ -12,11 +12,12 @@ use Rattle.codec.specs.Varint.{handle}
 use Rattle.codec.specs.Answers.{handleAnswer, u64Answer}
 use Rattle.codec.specs.declared.fixed.U64Read.the-variants as U64Case
 use Rattle.codec.specs.declared.blockhandle.HandleRead.the-variants as HandleCase
-use Rattle.codec.proofs.Prelude.{test}
+use Rattle.codec.proofs.Prelude.{test, came-of}
 use Rattle.codec.proofs.Lists.{below-all, below-drop}
 use Rattle.codec.proofs.BytesLaws.{part-end, same-number}
-use Rattle.codec.proofs.FixedLaws.{number-read, a-u64}
-use Rattle.codec.proofs.VarintCode.{no-handle, a-handle}
+use Rattle.codec.proofs.FixedLaws.{number-read, u64-said}
+use Rattle.codec.proofs.VarintCode.{handle-said}
+use Rattle.table_block.specs.declared.footer.FooterRead.{FooterRead}
 use Rattle.table_block.specs.declared.footer.FooterRead.the-variants as FooterCase
 use Rattle.table_block.specs.Answers.{footerAnswer}
 use Rattle.table.specs.Checked.{Checked, pass, refuse, _>>=_, ask, orRefuse}
@@ -54,31 +55,31 @@ magic-number t l b =
 -- what reading the last 8 bytes says
 pub magic-read : (t : List ℕ) → 48 ≤ length t → {x : ℕ} → ((i : ℕ) → getD t i 0 < 256) → u64Answer (numberAt 8 t (length t - 8)) ≡ U64Case.Value x
     → eqb x 0xdb47_7524_8b80_fb57 ≡ sameBytes (drop (length t - 8) t) magic
-magic-read t l b e = rw (number-read 8 t (length t - 8) (omega arith) (a-u64 _ e)) (magic-number t l b)
+magic-read t l b e = rw (number-read 8 t (length t - 8) (omega arith) (u64-said _ e)) (magic-number t l b)
 
 -- ---- both handles
 
 module _ (t s : List ℕ) where
   pub no-meta : handleAnswer (handle s) ≡ HandleCase.Bad → FooterCase.Refused 8 ≡ footerAnswer (footerHandles t s)
   unfolding footerHandles footerAnswer _>>=_ orRefuse
-  no-meta e = rw (no-handle s e)
+  no-meta e = rw (handle-said (handle s) e)
 
   pub no-index : {a b n : ℕ} → handleAnswer (handle s) ≡ HandleCase.Handle a b n → handleAnswer (handle (drop n s)) ≡ HandleCase.Bad → FooterCase.Refused 8 ≡ footerAnswer (footerHandles t s)
   unfolding footerHandles footerAnswer _>>=_ orRefuse
-  no-index {a} {b} {n} e f = rw (a-handle s e, no-handle (drop n s) f)
+  no-index {a} {b} {n} e f = rw (handle-said (handle s) e, handle-said (handle (drop n s)) f)
 
   module _ {a b n c d m : ℕ} (e : handleAnswer (handle s) ≡ HandleCase.Handle a b n) (f : handleAnswer (handle (drop n s)) ≡ HandleCase.Handle c d m) where
     pub meta-out : endsBefore (length t) a b ≡ false → FooterCase.Refused 8 ≡ footerAnswer (footerHandles t s)
     unfolding footerHandles footerAnswer placed ask _>>=_ orRefuse
-    meta-out p = rw (a-handle s e, a-handle (drop n s) f, p)
+    meta-out p = rw (handle-said (handle s) e, handle-said (handle (drop n s)) f, p)
 
     pub index-out : endsBefore (length t) a b ≡ true → endsBefore (length t) c d ≡ false → FooterCase.Refused 8 ≡ footerAnswer (footerHandles t s)
     unfolding footerHandles footerAnswer placed ask _>>=_ orRefuse
-    index-out p q = rw (a-handle s e, a-handle (drop n s) f, p, q)
+    index-out p q = rw (handle-said (handle s) e, handle-said (handle (drop n s)) f, p, q)
 
     pub both-in : endsBefore (length t) a b ≡ true → endsBefore (length t) c d ≡ true → FooterCase.Footer a b c d ≡ footerAnswer (footerHandles t s)
     unfolding footerHandles footerAnswer placed ask _>>=_ orRefuse
-    both-in p q = rw (a-handle s e, a-handle (drop n s) f, p, q)
+    both-in p q = rw (handle-said (handle s) e, handle-said (handle (drop n s)) f, p, q)
 
 -- ---- the whole
 
@@ -108,24 +109,10 @@ part-is t l = let e : length t - 8 - (length t - 48) ≡ 40 = omega arith in rw 
 
 -- ---- what decoding says of the footer
 
-module _ (t : List ℕ) where
-  pub no-footer : {n : ℕ} → footerAnswer (footer t) ≡ FooterCase.Refused n → footer t ≡ refuse n
-  unfolding footerAnswer
-  no-footer {n} = go (footer t)
-    where
-      go : (f : Checked Footer) → footerAnswer f ≡ FooterCase.Refused n → f ≡ refuse n
-      go (pass f) e = absurd (let z : _≡_ {A = ℕ} 0 1 = cc in omega arith)
-      go (refuse m) e = cc
+abbrev pub footerIn : FooterRead → Checked Footer
+footerIn (FooterCase.Refused n) = refuse n
+footerIn (FooterCase.Footer a b c d) = pass (record { metaindex = record { offset = a; size = b }; index = record { offset = c; size = d } })
 
-  pub a-footer : {a b c d : ℕ} → footerAnswer (footer t) ≡ FooterCase.Footer a b c d → footer t ≡ pass (record { metaindex = record { offset = a; size = b }; index = record { offset = c; size = d } })
-  unfolding footerAnswer
-  a-footer {a} {b} {c} {d} = go (footer t)
-    where
-      go : (f : Checked Footer) → footerAnswer f ≡ FooterCase.Footer a b c d → f ≡ pass (record { metaindex = record { offset = a; size = b }; index = record { offset = c; size = d } })
-      go (pass f) e =
-          let p : f .metaindex .offset ≡ a = cc in
-          let q : f .metaindex .size ≡ b = cc in
-          let r : f .index .offset ≡ c = cc in
-          let s : f .index .size ≡ d = cc in
-          λ i. pass (record { metaindex = record { offset = p i; size = q i }; index = record { offset = r i; size = s i } })
-      go (refuse n) e = absurd (let z : _≡_ {A = ℕ} 0 1 = cc in omega arith)
+pub footer-said : (f : Checked Footer) {r : FooterRead} → footerAnswer f ≡ r → f ≡ footerIn r
+unfolding footerAnswer
+footer-said = came-of footerAnswer footerIn (λ f. elim f [ pass f ↦ refl | refuse n ↦ refl ])

@@ -3,7 +3,7 @@ use Prim.Native.Nat.{_-_}
 use mathlib.Core.Path.{sym, _∙_}
 use native.Mathlib.Omega.{arith}
 use lib.ListN.{length, take, drop}
-use Rattle.block_reader.proofs.EntryLaws.{after, step-read, at-bad, at-entry, at-left}
+use Rattle.block_reader.proofs.EntryLaws.{after, step-read, at-said, at-left}
 use lib.ListN.{length-take, length-drop}
 use borrow.Author.Needs.{needs}
 use Rattle.block_reader.proofs.block.entry_at.Statement.{statement}
@@ -40,7 +40,7 @@ returns : tie.Need-returns
 returns c =
     let a = c .before .before .before .before .before .before .before .before .before .args in
     let r = c .before .before .before .before .read-entry .ensures in
-    (at-bad (a .key .now) (take (a .key-len) (a .key .now)) (a .d .now) (a .at) (sym (r .0) ∙ c .enum-told .given .1), at-left (a .key .now) (take (a .key-len) (a .key .now)) (a .d .now) (a .at) (r .1))
+    (at-said (a .key .now) (take (a .key-len) (a .key .now)) (a .d .now) (a .at) (sym (r .0) ∙ c .enum-told .given .1), at-left (a .key .now) (take (a .key-len) (a .key .now)) (a .d .now) (a .at) (r .1))
 
 same-length-2 : tie.Need-same-length-2
 same-length-2 c = search needs
@@ -49,7 +49,7 @@ returns-2 : tie.Need-returns-2
 returns-2 c =
     let a = c .before .before .before .before .before .before .before .before .before .before .args in
     let r = c .before .before .before .before .before .read-entry .ensures in
-    (at-entry (a .key .now) (take (a .key-len) (a .key .now)) (a .d .now) (a .at) (sym (r .0) ∙ c .before .shared .given .1), at-left (a .key .now) (take (a .key-len) (a .key .now)) (a .d .now) (a .at) (r .1))
+    (at-said (a .key .now) (take (a .key-len) (a .key .now)) (a .d .now) (a .at) (sym (r .0) ∙ c .before .shared .given .1), at-left (a .key .now) (take (a .key-len) (a .key .now)) (a .d .now) (a .at) (r .1))
 
 pub entry-at-spec : {M : Type 1} → statement M
 entry-at-spec =

@@ -1,6 +1,6 @@
 -- `block_reader::block::in_limits` meets its contract.
 use mathlib.Core.Path.{sym, _∙_}
-use Rattle.block_reader.proofs.FilledLaws.{and-yes, and-no, limits-data, limits-index, limits-bloom, limits-meta, limits-short}
+use Rattle.block_reader.proofs.FilledLaws.{and-with, limits-data, limits-index, limits-bloom, limits-meta, limits-short}
 use borrow.Author.Needs.{needs}
 use Rattle.block_reader.proofs.block.in_limits.Statement.{statement}
 use Rattle.block_reader.proofs.block.in_limits.Tie as tie
@@ -33,24 +33,24 @@ is-handle-requires-2 : tie.Need-is-handle-requires-2
 is-handle-requires-2 c κs = search needs
 
 returns : tie.Need-returns
-returns c = sym (limits-data _ (c .before .before .enum-told .given .1) ∙ and-yes _ (sym (c .before .within .ensures) ∙ c .if1 .taken))
+returns c = sym (limits-data _ (c .before .before .enum-told .given .1) ∙ and-with _ (sym (c .before .within .ensures) ∙ c .if1 .taken))
 
 returns-2 : tie.Need-returns-2
-returns-2 c = sym (limits-data _ (c .before .before .enum-told .given .1) ∙ and-no _ (sym (c .before .within .ensures) ∙ c .if1 .left))
+returns-2 c = sym (limits-data _ (c .before .before .enum-told .given .1) ∙ and-with _ (sym (c .before .within .ensures) ∙ c .if1 .left))
 
 returns-3 : tie.Need-returns-3
-returns-3 c = c .is-handle .ensures ∙ sym (limits-index _ (c .before .before .before .enum-told2 .given .1) ∙ and-yes _ (sym (c .before .before .within2 .ensures) ∙ c .before .if2 .taken))
+returns-3 c = c .is-handle .ensures ∙ sym (limits-index _ (c .before .before .before .enum-told2 .given .1) ∙ and-with _ (sym (c .before .before .within2 .ensures) ∙ c .before .if2 .taken))
 
 returns-4 : tie.Need-returns-4
-returns-4 c = sym (limits-index _ (c .before .before .enum-told2 .given .1) ∙ and-no _ (sym (c .before .within2 .ensures) ∙ c .if2 .left))
+returns-4 c = sym (limits-index _ (c .before .before .enum-told2 .given .1) ∙ and-with _ (sym (c .before .within2 .ensures) ∙ c .if2 .left))
 
 returns-5 : tie.Need-returns-5
 returns-5 c =
     c .is-handle2 .ensures
-    ∙ sym (limits-bloom _ (c .before .before .before .before .before .enum-told3 .given .1) (sym (c .before .before .is-bloom .ensures) ∙ c .before .if4 .taken) ∙ and-yes _ (sym (c .before .before .before .before .within3 .ensures) ∙ c .before .before .before .if3 .taken))
+    ∙ sym (limits-bloom _ (c .before .before .before .before .before .enum-told3 .given .1) (sym (c .before .before .is-bloom .ensures) ∙ c .before .if4 .taken) ∙ and-with _ (sym (c .before .before .before .before .within3 .ensures) ∙ c .before .before .before .if3 .taken))
 
 returns-6 : tie.Need-returns-6
-returns-6 c = sym (limits-meta _ (c .before .before .before .before .enum-told3 .given .1) (sym (c .before .is-bloom .ensures) ∙ c .if4 .left) ∙ and-yes _ (sym (c .before .before .before .within3 .ensures) ∙ c .before .before .if3 .taken))
+returns-6 c = sym (limits-meta _ (c .before .before .before .before .enum-told3 .given .1) (sym (c .before .is-bloom .ensures) ∙ c .if4 .left) ∙ and-with _ (sym (c .before .before .before .within3 .ensures) ∙ c .before .before .if3 .taken))
 
 returns-7 : tie.Need-returns-7
 returns-7 c = sym (limits-short _ (c .before .before .enum-told3 .given .1) (sym (c .before .within3 .ensures) ∙ c .if3 .left))

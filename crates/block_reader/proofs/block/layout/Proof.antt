@@ -6,7 +6,7 @@ use lib.ListN.{length}
 use Rattle.codec.specs.declared.fixed.U32Read.the-variants.{Value}
 use Rattle.codec.specs.Answers.{u32Answer}
 use Rattle.codec.specs.Bytes.{numberAt}
-use Rattle.codec.proofs.FixedLaws.{number-there, no-u32}
+use Rattle.codec.proofs.FixedLaws.{number-there, u32-said}
 use Rattle.block_reader.proofs.LayoutLaws.{rows-short, rows-none, rows-over, rows-some}
 use borrow.Author.Needs.{needs}
 use Rattle.block_reader.proofs.block.layout.Statement.{statement}
@@ -50,7 +50,7 @@ sub-t11 : tie.Need-sub-t11
 sub-t11 c = search needs
 
 returns-4 : tie.Need-returns-4
-returns-4 c = absurd (number-there 4 _ _ (omega arith) (no-u32 _ (sym (c .before .before .read-u32 .ensures) ∙ c .enum-told .given .1)))
+returns-4 c = absurd (number-there 4 _ _ (omega arith) (u32-said _ (sym (c .before .before .read-u32 .ensures) ∙ c .enum-told .given .1)))
 
 returns-5 : tie.Need-returns-5
 returns-5 c = rows-some _ (omega arith) (last (c .before .before)) (c .before .if2 .left) (c .if3 .left)

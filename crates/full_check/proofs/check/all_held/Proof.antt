@@ -15,7 +15,7 @@ use Rattle.block_reader.proofs.WalkLaws.{Scanning, Same, scan-start, scan-bad, 
 use Rattle.filters.specs.Filter.{hash}
 use Rattle.filters.specs.FilterBlock.{mayMatch}
 use Rattle.full_check.specs.Steps.{lets}
-use Rattle.full_check.proofs.KeyLaws.{held-end, held-more, held-stop}
+use Rattle.full_check.proofs.KeyLaws.{held-end, held-next}
 use borrow.Author.Needs.{needs}
 use Rattle.full_check.proofs.check.all_held.Statement.{statement}
 use Rattle.full_check.proofs.check.all_held.Tie as tie
@@ -121,14 +121,14 @@ loop-again c =
     let k = c .before .before .before in
     let l = lp k in
     let t = entry k in
-    scan-more (l .loop .inv) t (Same (held (F l) (O l))) (λ es rest same. same ∙ held-more (F l) (O l) (t .step .here) rest (asked (c .before) true (c .if1 .taken)))
+    scan-more (l .loop .inv) t (Same (held (F l) (O l))) (λ es rest same. same ∙ held-next (F l) (O l) (t .step .here) rest true (asked (c .before) true (c .if1 .taken)))
 
 returns-2 : tie.Need-returns-2 Inv-loop μ-loop
 returns-2 c =
     let k = c .before .before .before in
     let l = lp k in
     let t = entry k in
-    scan-hit (l .loop .inv) t (λ es. false ≡ held (F l) (O l) es) (λ es rest same. sym (same ∙ held-stop (F l) (O l) (t .step .here) rest (asked (c .before) false (c .if1 .left))))
+    scan-hit (l .loop .inv) t (λ es. false ≡ held (F l) (O l) es) (λ es rest same. sym (same ∙ held-next (F l) (O l) (t .step .here) rest false (asked (c .before) false (c .if1 .left))))
 
 returns-3 : tie.Need-returns-3 Inv-loop μ-loop
 returns-3 c = let l = c .before in λ es read. held-end (F l) (O l) ∙ sym (scan-end (l .loop .inv) (c .loop-test .left) es read)

@@ -1,6 +1,7 @@
 -- `full_check::check::comes_after` meets its contract.
-use mathlib.Core.Path.{_∙_}
-use Rattle.full_check.proofs.KeyLaws.{after-first, after-data, after-index, after-meta}
+use Rattle.block_reader.specs.Said.{kindOf}
+use Rattle.table.specs.Table.{lessOf}
+use Rattle.full_check.proofs.KeyLaws.{after-first, after-next}
 use borrow.Author.Needs.{needs}
 use Rattle.full_check.proofs.check.comes_after.Statement.{statement}
 use Rattle.full_check.proofs.check.comes_after.Tie as tie
@@ -27,13 +28,16 @@ below-requires : tie.Need-below-requires
 below-requires c κs = search needs
 
 returns-2 : tie.Need-returns-2
-returns-2 c = c .key-below .ensures ∙ after-data _ _ (c .before .before .before .if1 .left) (c .before .enum-told .given .1)
+unfolding kindOf lessOf
+returns-2 c = after-next _ _ (c .before .before .before .if1 .left) (c .before .enum-told .given .1) (c .key-below .ensures)
 
 returns-3 : tie.Need-returns-3
-returns-3 c = c .key-below2 .ensures ∙ after-index _ _ (c .before .before .before .if1 .left) (c .before .enum-told2 .given .1)
+unfolding kindOf lessOf
+returns-3 c = after-next _ _ (c .before .before .before .if1 .left) (c .before .enum-told2 .given .1) (c .key-below2 .ensures)
 
 returns-4 : tie.Need-returns-4
-returns-4 c = c .below .ensures ∙ after-meta _ _ (c .before .before .before .if1 .left) (c .before .enum-told3 .given .1)
+unfolding kindOf lessOf
+returns-4 c = after-next _ _ (c .before .before .before .if1 .left) (c .before .enum-told3 .given .1) (c .below .ensures)
 
 pub comes-after-spec : {M : Type 1} → statement M
 comes-after-spec =

@@ -1,7 +1,7 @@
 -- `full_check::check::in_order` meets its contract.
 use Prim.Native.Nat.{ℕ, _≤_}
 use mathlib.Core.Path.{_≡_, sym, subst, _∙_}
-use mathlib.Core.Bool.{true}
+use mathlib.Core.Bool.{true, false}
 use mathlib.Core.List.{List, []}
 use mathlib.Core.Option.{Option, some}
 use native.Mathlib.Omega.{arith}
@@ -16,7 +16,7 @@ use Rattle.table.specs.Table.{Edge, firstFollows, lessOf}
 use Rattle.full_check.specs.declared.check.Rising.{Rising}
 use Rattle.full_check.specs.declared.check.Rising.the-variants as RisingCase
 use Rattle.full_check.specs.Steps.{Tested, edgeOf}
-use Rattle.full_check.proofs.KeyLaws.{ordered-first, ordered-falls, ordered-index, ordered-all}
+use Rattle.full_check.proofs.KeyLaws.{ordered-first, ordered-falls, ordered-last}
 use borrow.Author.Needs.{needs}
 use Rattle.full_check.proofs.check.in_order.Statement.{statement}
 use Rattle.full_check.proofs.check.in_order.Tie as tie
@@ -98,7 +98,7 @@ same-length-3 c = search needs
 returns-3 : tie.Need-returns-3
 returns-3 c =
     let k = c .before .before .before in
-    λ es read. let u = up k .1 es read in ordered-index _ _ _ (follows (k .before .before .before .before .before) es read) (u .0) (u .1) (sym (c .before .key-below .ensures) ∙ c .if2 .taken)
+    λ es read. let u = up k .1 es read in ordered-last _ _ _ (follows (k .before .before .before .before .before) es read) (u .0) (u .1) true (sym (c .before .key-below .ensures) ∙ c .if2 .taken)
 
 same-length-4 : tie.Need-same-length-4
 same-length-4 c = search needs
@@ -106,7 +106,7 @@ same-length-4 c = search needs
 returns-4 : tie.Need-returns-4
 returns-4 c =
     let k = c .before .before .before in
-    (up k .0, λ es read. let u = up k .1 es read in (ordered-all _ _ _ (follows (k .before .before .before .before .before) es read) (u .0) (u .1) (sym (c .before .key-below .ensures) ∙ c .if2 .left), u .1))
+    (up k .0, λ es read. let u = up k .1 es read in (ordered-last _ _ _ (follows (k .before .before .before .before .before) es read) (u .0) (u .1) false (sym (c .before .key-below .ensures) ∙ c .if2 .left), u .1))
 
 pub in-order-spec : {M : Type 1} → statement M
 in-order-spec =

@@ -1,12 +1,12 @@
 -- `keys::cmp::joined_below` meets its contract: the front decides, then the byte, then the back.
-use mathlib.Core.Path.{sym, ap, _∙_}
+use mathlib.Core.Path.{refl, sym, ap, _∙_}
 use Prim.Native.Nat.{_+_}
 use lib.ListN.{length}
 use lib.Seq.{length-take-le}
 use Rattle.codec.proofs.BytesLaws.{part-rest}
 use Rattle.keys.specs.Order.{bytesBelow}
-use Rattle.keys.proofs.AnswerLaws.{less-is, equal-is, greater-is}
-use Rattle.keys.proofs.PlanLaws.{below-front, joined-less, joined-greater, joined-back, joined-byte}
+use Rattle.keys.proofs.AnswerLaws.{order-said}
+use Rattle.keys.proofs.PlanLaws.{below-front, joined-front, joined-back, joined-byte}
 use borrow.Author.Needs.{needs}
 use native.Mathlib.Omega.{arith}
 use Rattle.keys.proofs.cmp.joined_below.Statement.{statement}
@@ -59,20 +59,20 @@ shared-slice-read-result : tie.Need-shared-slice-read-result
 shared-slice-read-result c = search needs
 
 returns-2 : tie.Need-returns-2
-returns-2 c = joined-less _ _ _ _ (omega arith) (less-is _ (sym (c .before .before .cmp .ensures) ∙ c .enum-told .given .1))
+returns-2 c = joined-front _ _ _ _ (omega arith) (order-said _ (sym (c .before .before .cmp .ensures) ∙ c .enum-told .given .1)) refl
 
 returns-3 : tie.Need-returns-3
-returns-3 c = joined-greater _ _ _ _ (omega arith) (greater-is _ (sym (c .before .before .cmp .ensures) ∙ c .enum-told2 .given .1))
+returns-3 c = joined-front _ _ _ _ (omega arith) (order-said _ (sym (c .before .before .cmp .ensures) ∙ c .enum-told2 .given .1)) refl
 
 returns-4 : tie.Need-returns-4
 returns-4 c =
     let a = c .before .before .before .before .before .before .before .before .before .before .before .before .args in
     c .below2 .ensures
     ∙ ap (bytesBelow (a .back .now)) (part-rest (a .b .now) (length (a .front .now) + 1))
-    ∙ joined-back (a .front .now) _ _ _ (omega arith) (equal-is _ (sym (c .before .before .before .before .before .before .cmp .ensures) ∙ c .before .before .before .before .enum-told3 .given .1)) (c .before .before .if2 .taken)
+    ∙ joined-back (a .front .now) _ _ _ (omega arith) (order-said _ (sym (c .before .before .before .before .before .before .cmp .ensures) ∙ c .before .before .before .before .enum-told3 .given .1)) (c .before .before .if2 .taken)
 
 returns-5 : tie.Need-returns-5
-returns-5 c = joined-byte _ _ _ _ (omega arith) (equal-is _ (sym (c .before .before .before .before .before .cmp .ensures) ∙ c .before .before .before .enum-told3 .given .1)) (c .before .if2 .left)
+returns-5 c = joined-byte _ _ _ _ (omega arith) (order-said _ (sym (c .before .before .before .before .before .cmp .ensures) ∙ c .before .before .before .enum-told3 .given .1)) (c .before .if2 .left)
 
 pub joined-below-spec : {M : Type 1} → statement M
 joined-below-spec =

@@ -1,9 +1,10 @@
 -- `keys::cmp::plan` meets its contract.
 use mathlib.Core.Path.{sym, ap, _∙_}
+use mathlib.Core.Bool.{true, false}
 use borrow.Author.Tests.{not-true, not-false}
 use Rattle.keys.specs.Order.{bytesBelow}
 use Rattle.keys.specs.Plan.{sepBytes, SepFits}
-use Rattle.keys.proofs.PlanLaws.{sep-empty, sep-above, sep-reaches, sep-shortest}
+use Rattle.keys.proofs.PlanLaws.{sep-empty, sep-above, sep-chosen}
 use borrow.Author.Needs.{needs}
 use native.Mathlib.Omega.{arith}
 use Rattle.keys.proofs.cmp.plan.Statement.{statement}
@@ -33,7 +34,7 @@ returns-3 c =
     record {
       fits = s .fits;
       gives = s .gives
-          ∙ sep-shortest (a .a .now) (a .b .now) (omega arith) (sym (c .before .before .before .before .below .ensures) ∙ not-false _ (c .before .before .before .if2 .left))
+          ∙ sep-chosen (a .a .now) (a .b .now) true (omega arith) (sym (c .before .before .before .before .below .ensures) ∙ not-false _ (c .before .before .before .if2 .left))
           (sym (ap (λ l. bytesBelow l (a .b .now)) (s .gives)) ∙ sym (c .before .sep-below .ensures) ∙ c .if3 .taken);
     }
 
@@ -44,7 +45,7 @@ returns-4 c =
     let s = c .before .before .shortest .ensures in
     record {
       fits = tt;
-      gives = sep-reaches (a .a .now) (a .b .now) (sym (c .before .before .before .before .below .ensures) ∙ not-false _ (c .before .before .before .if2 .left))
+      gives = sep-chosen (a .a .now) (a .b .now) false (omega arith) (sym (c .before .before .before .before .below .ensures) ∙ not-false _ (c .before .before .before .if2 .left))
           (sym (ap (λ l. bytesBelow l (a .b .now)) (s .gives)) ∙ sym (c .before .sep-below .ensures) ∙ c .if3 .left);
     }
 

@@ -1,6 +1,6 @@
 -- `keys::key_types::cmp_target` meets its contract: the words decide, or where they are equal the sequences.
-use mathlib.Core.Path.{sym, _∙_}
-use Rattle.keys.proofs.AnswerLaws.{target-less, target-greater, target-equal}
+use mathlib.Core.Path.{refl, sym, _∙_}
+use Rattle.keys.proofs.AnswerLaws.{target-word, target-equal}
 use borrow.Author.Needs.{needs}
 use Rattle.keys.proofs.key_types.cmp_target.Statement.{statement}
 use Rattle.keys.proofs.key_types.cmp_target.Tie as tie
@@ -27,10 +27,10 @@ order-requires : tie.Need-order-requires
 order-requires c κs = search needs
 
 returns : tie.Need-returns
-returns c = target-less _ _ _ (c .before .before .before .user-key .ensures) (sym (c .before .before .cmp .ensures) ∙ c .enum-told .given .1)
+returns c = target-word _ _ _ (c .before .before .before .user-key .ensures) (sym (c .before .before .cmp .ensures) ∙ c .enum-told .given .1) refl
 
 returns-2 : tie.Need-returns-2
-returns-2 c = target-greater _ _ _ (c .before .before .before .user-key .ensures) (sym (c .before .before .cmp .ensures) ∙ c .enum-told2 .given .1)
+returns-2 c = target-word _ _ _ (c .before .before .before .user-key .ensures) (sym (c .before .before .cmp .ensures) ∙ c .enum-told2 .given .1) refl
 
 returns-3 : tie.Need-returns-3
 returns-3 c =
