@@ -10,7 +10,7 @@ use lib.ListN.{length, drop, length-append, length-drop}
 use Rattle.codec.specs.Bytes.{common}
 use Rattle.codec.proofs.Prelude.{test}
 use Rattle.blocks.specs.Block.{Pair, lastKeyOf, headBytes, entryBytes, sharing, since, sinceAll, packed, restartsOf, orZero, blockBytes}
-use Rattle.blocks.specs.Count.{countOf, noEntries, entrySize, countEntry, countSize}
+use Rattle.blocks.specs.Count.{BlockCount, countOf, noEntries, entrySize, countEntry, countSize}
 use Rattle.blocks.proofs.BuildLaws.{head-long, entry-size, first-restart, packed-append, restarts-append, packed-one, restarts-one, block-length}
 
 pub count-none : (i : ℕ) → countOf i [] ≡ noEntries i
@@ -50,6 +50,11 @@ module _ (i : ℕ) (ps : List Pair) (p : Pair) where
   pub count-entry : countOf i (ps ++ (p ∷ [])) ≡ countEntry i (countOf i ps) (p .key) (length (p .value))
   unfolding countOf countEntry
   count-entry = rw (packed-more, restarts-more, since-more i i ps p, last-more [] ps p)
+
+-- it may be a restart
+pub entry-restarts : (i : ℕ) (b : BlockCount) (key : List ℕ) (v : ℕ) → (b .restarts ≤ countEntry i b key v .restarts) × (countEntry i b key v .restarts ≤ b .restarts + 1)
+unfolding countEntry
+entry-restarts i b key v = test (eqb (b .since) i) (λ t. rw (t, countEntry) (omega arith)) (λ t. rw (t, countEntry) (omega arith))
 
 -- ---- the size, and whether there are entries
 

@@ -44,11 +44,15 @@ formed-some kind s b e h f = gets _ _ e (gives _ _ (true-is h) (gives _ _ (true-
 
 -- ---- it can be read: its keys have at most 1,032 bytes
 
+within-most : (least n : ℕ) (r : Bool) → T (within least 1032 n && r) → T (leb n 1032)
+unfolding within
+within-most least n r t = and-r (leb least n) (leb n 1032) (and-l (leb least n && leb n 1032) r t)
+
 fit-short : (kind : Kind) (p : Pair) → T (entryFits kind p) → T (leb (length (p .key)) 1032)
-unfolding entryFits within
-fit-short dataBlock p t = and-r (leb 9 (length (p .key))) (leb (length (p .key)) 1032) (and-l (leb 9 (length (p .key)) && leb (length (p .key)) 1032) _ t)
-fit-short indexBlock p t = and-r (leb 9 (length (p .key))) (leb (length (p .key)) 1032) (and-l (leb 9 (length (p .key)) && leb (length (p .key)) 1032) _ t)
-fit-short metaBlock p t = and-r (leb 1 (length (p .key))) (leb (length (p .key)) 1032) (and-l (leb 1 (length (p .key)) && leb (length (p .key)) 1032) _ t)
+unfolding entryFits
+fit-short dataBlock p t = within-most 9 (length (p .key)) _ t
+fit-short indexBlock p t = within-most 9 (length (p .key)) _ t
+fit-short metaBlock p t = within-most 1 (length (p .key)) _ t
 
 all-short : (kind : Kind) (ps : List Pair) → T (all (entryFits kind) ps) → T (all (λ (p : Pair). leb (length (p .key)) 1032) ps)
 unfolding all

@@ -12,7 +12,7 @@ use borrow.Author.Tests.{le-leb, eq-eqb}
 use Rattle.codec.specs.Bytes.{part, bytesOf, fours, numbers}
 use Rattle.codec.proofs.Lists.{Below}
 use Rattle.codec.proofs.BytesLaws.{part-at, back-at, last-one, bytes-length, number-bytes, fours-length, fours-append, numbers-fours, number-of-fours}
-use Rattle.filters.specs.FilterBlock.{baseOf, arrayOf, countOf, startOf, rising, filterFormed, mayMatch, Filtering, filterFor, madeBytes, starts, filterBlockOf, filterBlockBytes}
+use Rattle.filters.specs.FilterBlock.{baseOf, arrayOf, countOf, startOf, rising, filterFormed, mayMatch, Filtering, filterFor, Filters, makeFilter, lastFilter, madeBytes, starts, filterBlockOf, filterBlockBytes}
 use Rattle.filters.proofs.FilterLaws.{never-denies}
 
 pub block-of-long : (fs os : List ℕ) → length (filterBlockOf fs os) ≡ length fs + 4 * length os + 5
@@ -26,6 +26,11 @@ bounds c at [] = at ∷ []
 bounds c at (g ∷ gs) = at ∷ bounds c (at + length (filterFor c g)) gs
 
 module _ (c : Filtering) where
+  pub starts-length : (at : ℕ) (gs : List (List ℕ)) → length (starts c at gs) ≡ length gs
+  unfolding starts
+  starts-length at [] = refl
+  starts-length at (g ∷ gs) = ap suc (starts-length (at + length (filterFor c g)) gs)
+
   bounds-are : (at : ℕ) (gs : List (List ℕ)) → bounds c at gs ≡ starts c at gs ++ ((at + length (madeBytes c gs)) ∷ [])
   unfolding bounds starts madeBytes
   bounds-are at [] = ap (λ (n : ℕ). n ∷ []) (omega arith)
@@ -41,9 +46,7 @@ module _ (c : Filtering) where
       let l = length-append (filterFor c g) (madeBytes c gs) in (omega arith, bounds-below (at + length (filterFor c g)) gs m (omega arith))
 
   bounds-length : (at : ℕ) (gs : List (List ℕ)) → length (bounds c at gs) ≡ suc (length gs)
-  unfolding bounds
-  bounds-length at [] = refl
-  bounds-length at (g ∷ gs) = ap suc (bounds-length (at + length (filterFor c g)) gs)
+  bounds-length at gs = rw bounds-are (simp length-append (omega (arith, starts-length at gs)))
 
   first-bound : (at : ℕ) (gs : List (List ℕ)) → getD (bounds c at gs) 0 0 ≡ at
   unfolding bounds
@@ -63,11 +66,6 @@ module _ (c : Filtering) where
       let f = filterFor c g in
       let e : pre ++ (f ++ madeBytes c gs ++ post) ≡ (pre ++ f) ++ (madeBytes c gs ++ post) = simp append-assoc in
       rw (← length-append pre f, e) (bounds-part (pre ++ f) post gs i (omega arith))
-
-  pub starts-length : (at : ℕ) (gs : List (List ℕ)) → length (starts c at gs) ≡ length gs
-  unfolding starts
-  starts-length at [] = refl
-  starts-length at (g ∷ gs) = ap suc (starts-length (at + length (filterFor c g)) gs)
 
   offsets-rise : (low at : ℕ) (gs : List (List ℕ)) → low ≤ at → rising low (starts c at gs) (at + length (madeBytes c gs)) ≡ true
   unfolding starts madeBytes rising
@@ -166,3 +164,14 @@ module _ (c : Filtering) (gs : List (List ℕ)) (small : length (madeBytes c gs)
 
 pub made-long : (c : Filtering) (gs : List (List ℕ)) → length (madeBytes c gs) ≤ length (filterBlockBytes c gs)
 made-long c gs = omega (arith, block-long c gs)
+
+-- ---- the filter at the end
+
+-- what holds where no hash waits, and of one filter more where some do
+pub last-of : (P : Filters → Type 0) (f : Filters) → (f .waiting ≡ [] → P f) → ((h : ℕ) (hs : List ℕ) → f .waiting ≡ h ∷ hs → P (makeFilter f)) → P (lastFilter f)
+unfolding lastFilter
+last-of P f p q = go (f .waiting) refl
+  where
+    go : (w : List ℕ) → f .waiting ≡ w → P (lastFilter f)
+    go [] e = rw (lastFilter, e) (p e)
+    go (h ∷ hs) e = rw (lastFilter, e) (q h hs e)

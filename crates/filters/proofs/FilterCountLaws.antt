@@ -1,17 +1,17 @@
 -- The counts of filters being made: as hashes wait, as filters are made, at the end, and the filter block's size.
 use Prim.Native.Nat.{ℕ, zero, suc, _+_, _-_, _/_, _≤_, _<_}
-use mathlib.Core.Path.{_≡_, refl, ap, _∙_}
+use mathlib.Core.Path.{_≡_, refl, sym, ap, _∙_}
 use mathlib.Core.List.{List, [], _∷_, _++_, append-assoc, append-nil}
 use native.Mathlib.Numerals.{add-one}
 use native.Mathlib.Omega.{arith}
 use lib.Dec.{ltb}
 use lib.ListN.{length, length-append}
 use borrow.Author.Tests.{ltb-true, ltb-false, lt-ltb, le-ltb}
-use Rattle.codec.proofs.Prelude.{test}
+use Rattle.codec.proofs.Prelude.{test, split}
 use Rattle.filters.specs.FilterBlock.{Filtering, unfiltered, bitsPerKey, filterFor, Filters, noFilters, wait, makeFilter, makeFilters, filtersUpTo, lastFilter, madeBytes, filterBlockBytes}
 use Rattle.filters.specs.FilterCount.{FilterCount, filterCountOf, filterBytesOf, countWaiting, countMade, countUpTo, countLast, filterBlockSize}
 use Rattle.filters.proofs.FilterLaws.{filter-length}
-use Rattle.filters.proofs.FilterBlockLaws.{made-append, block-long}
+use Rattle.filters.proofs.FilterBlockLaws.{made-append, block-long, last-of}
 
 pub wait-append : (hs ks : List ℕ) (f : Filters) → wait (hs ++ ks) f ≡ wait ks (wait hs f)
 unfolding wait
@@ -62,11 +62,15 @@ module _ (c : Filtering) where
   count-makes zero f = count-make f
   count-makes (suc n) f = count-makes n (makeFilter f) ∙ ap (taken (suc n)) (count-make f) ∙ taken-again n (filterCountOf c f)
 
-  made-more : (n : ℕ) (k : FilterCount) → k .made < n → countMade c n k ≡ taken (n - k .made) k
-  unfolding countMade taken
-  made-more n k l = let e : n - k .made + k .made ≡ n = omega arith in rw (lt-ltb (k .made) n l, countMade, e)
+  pub made-over : (n : ℕ) (k : FilterCount) → k .made < n → countMade c n k ≡ record { bytes = k .bytes + filterBytesOf c (k .waiting); made = n; waiting = 0 }
+  unfolding countMade
+  made-over n k l = rw (lt-ltb (k .made) n l, countMade)
 
-  made-enough : (n : ℕ) (k : FilterCount) → n ≤ k .made → countMade c n k ≡ k
+  made-more : (n : ℕ) (k : FilterCount) → k .made < n → countMade c n k ≡ taken (n - k .made) k
+  unfolding taken
+  made-more n k l = let e : n - k .made + k .made ≡ n = omega arith in rw e (made-over n k l)
+
+  pub made-enough : (n : ℕ) (k : FilterCount) → n ≤ k .made → countMade c n k ≡ k
   unfolding countMade
   made-enough n k l = rw (le-ltb (k .made) n l, countMade)
 
@@ -86,27 +90,26 @@ module _ (c : Filtering) where
   unfolding filtersUpTo countUpTo
   count-upTo offset f = count-made (offset / 2048) f
 
-  none-waits : (k : FilterCount) → k .waiting ≡ 0 → countLast c k ≡ k
+  pub none-waits : (k : FilterCount) → k .waiting ≡ 0 → countLast c k ≡ k
   unfolding countLast
   none-waits k e = cc
 
-  some-wait : (k : FilterCount) (n : ℕ) → k .waiting ≡ suc n → countLast c k ≡ taken 1 k
+  pub some-wait : (k : FilterCount) → (k .waiting ≡ 0 → ⊥) → countLast c k ≡ countMade c (k .made + 1) k
   unfolding countLast
-  some-wait k n e =
-      let one : countMade c (suc (k .made)) k ≡ taken 1 k =
-      let m : suc (k .made) - k .made ≡ 1 = omega arith in rw (made-more (suc (k .made)) k (omega arith), m) in
-      cc
+  some-wait k ne = go (k .waiting) refl
+    where
+      go : (n : ℕ) → k .waiting ≡ n → countLast c k ≡ countMade c (k .made + 1) k
+      go zero e = absurd (ne e)
+      go (suc n) e = rw (add-one (k .made)) (cc)
+
+  last-taken : (k : FilterCount) → (k .waiting ≡ 0 → ⊥) → countLast c k ≡ taken 1 k
+  last-taken k ne = let m : k .made + 1 - k .made ≡ 1 = omega arith in some-wait k ne ∙ rw (made-more (k .made + 1) k (omega arith), m)
 
   pub count-last : (f : Filters) → filterCountOf c (lastFilter f) ≡ countLast c (filterCountOf c f)
-  count-last f = go (f .waiting) refl
-    where
-      go : (w : List ℕ) → f .waiting ≡ w → filterCountOf c (lastFilter f) ≡ countLast c (filterCountOf c f)
-      go [] e =
-          let last : lastFilter f ≡ f = unfold lastFilter in cc in
-          rw (last, none-waits (filterCountOf c f) (unfold filterCountOf in ap length e))
-      go (h ∷ hs) e =
-          let last : lastFilter f ≡ makeFilter f = unfold lastFilter in cc in
-          rw (last, some-wait (filterCountOf c f) (length hs) (unfold filterCountOf in ap length e)) (count-make f)
+  count-last f =
+      last-of (λ (g : Filters). filterCountOf c g ≡ countLast c (filterCountOf c f)) f
+      (λ e. sym (none-waits (filterCountOf c f) (unfold filterCountOf in ap length e)))
+      (λ h hs e. count-make f ∙ sym (last-taken (filterCountOf c f) (unfold filterCountOf in λ z. omega (arith, ap length e))))
 
   pub count-block : (f : Filters) → length (filterBlockBytes c (f .made)) ≡ filterBlockSize (filterCountOf c f)
   unfolding filterCountOf filterBlockSize
@@ -132,8 +135,7 @@ module _ (c : Filtering) where
 
   -- at the end none waits
   pub last-kept : (k : FilterCount) → Kept k (countLast c k) × (countLast c k .waiting ≡ 0)
-  last-kept k = go (k .waiting) refl
-    where
-      go : (n : ℕ) → k .waiting ≡ n → Kept k (countLast c k) × (countLast c k .waiting ≡ 0)
-      go zero e = rw (none-waits c k e) (omega arith)
-      go (suc n) e = rw (some-wait c k n e) (unfold taken in omega arith)
+  last-kept k =
+      split 0 (k .waiting)
+      (λ l. rw (last-taken c k (λ z. omega arith)) (unfold taken in omega arith))
+      (λ l. rw (none-waits c k (omega arith)) (omega arith))

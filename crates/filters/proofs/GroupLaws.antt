@@ -1,6 +1,6 @@
 -- Filters being made: each hash that waited is in the filter of its number.
 use Prim.Native.Nat.{ℕ, zero, suc, _+_, _-_, _/_, _^_, _≤_, _<_}
-use mathlib.Core.Path.{_≡_, refl}
+use mathlib.Core.Path.{_≡_}
 use mathlib.Core.List.{List, [], _∷_, List·Memᴰ, Memᴰ·append-left, Memᴰ·append-right}
 use mathlib.Core.Bool.{true}
 use native.Mathlib.Omega.{arith}
@@ -10,7 +10,7 @@ use lib.Seq.{getD-append-seam}
 use borrow.Author.Tests.{ltb-true, ltb-false}
 use Rattle.codec.proofs.Prelude.{test}
 use Rattle.filters.specs.FilterBlock.{bitsPerKey, mayMatch, Filters, wait, makeFilter, makeFilters, filtersUpTo, lastFilter, madeBytes, filterBlockBytes}
-use Rattle.filters.proofs.FilterBlockLaws.{may-past, may-group}
+use Rattle.filters.proofs.FilterBlockLaws.{may-past, may-group, last-of}
 
 -- a hash is in the filter of a number, if that is made, and else among those that wait
 pub record Holds (f : Filters) (i : ℕ) (h : ℕ) : Type 0 where
@@ -51,12 +51,7 @@ makes-hold zero f i h l k = k
 makes-hold (suc n) f i h l k = makes-hold n (makeFilter f) i h (make-more f i l) (make-holds f i h l k)
 
 pub last-holds : (f : Filters) (i h : ℕ) → Holds f i h → Holds (lastFilter f) i h
-unfolding lastFilter
-last-holds f i h k = go (f .waiting) refl
-  where
-    go : (w : List ℕ) → f .waiting ≡ w → Holds (lastFilter f) i h
-    go [] e = rw (lastFilter, e) k
-    go (x ∷ xs) e = rw (lastFilter, e) (make-holds f i h (k .near) k)
+last-holds f i h k = last-of (λ (g : Filters). Holds g i h) f (λ e. k) (λ x xs e. make-holds f i h (k .near) k)
 
 pub holds-may : (b : ℕ) (f : Filters) (offset h : ℕ) → length (madeBytes (bitsPerKey b) (f .made)) < 2 ^ 32 → Holds f (offset / 2048) h
     → mayMatch (filterBlockBytes (bitsPerKey b) (f .made)) offset h ≡ true

@@ -2,7 +2,7 @@
 use Prim.Native.Nat.{ℕ, _≤_, _<_}
 use mathlib.Core.Path.{_≡_, refl, sym, _∙_, ap, subst}
 use mathlib.Core.List.{List}
-use mathlib.Core.Bool.{true, false, false≢true}
+use mathlib.Core.Bool.{true, false≢true}
 use mathlib.Core.Logic.{_⊎_, inl, inr}
 use native.Mathlib.Omega.{arith}
 use lib.ListN.{length, take}
@@ -22,8 +22,10 @@ use Rattle.table.specs.Reads
 use Rattle.blocks.specs.Count.{BlockCount}
 use Rattle.block_builder.specs.Builder.{countIn}
 use Rattle.block_builder.specs.declared.block_builder.BlockBuilder.{BlockBuilder}
+use Rattle.builder.specs.declared.table_builder.Answer.the-variants as AnswerCase
 use Rattle.builder.specs.declared.table_builder.Options as Given
 use Rattle.builder.specs.declared.table_builder.Builder.{Builder}
+use Rattle.builder.specs.declared.table_builder.Outcome.the-variants as OutcomeCase
 use Rattle.builder.specs.State.{optionsOf, countsIn, Stands}
 use Rattle.builder.specs.Answers.{answerOf, Traced}
 use Rattle.reader.specs.declared.table_reader.Found.{Found}
@@ -112,17 +114,16 @@ step-fixed t ix at k d = shown-fixed Answer Sought (List ℕ) soughtOf (λ a k�
 pub start-fixed : OneAnswer.startFixed
 start-fixed o r x y h k = λ i. (record { answer = both (h .answer) (k .answer) i; state = both (h .state) (k .state) i }, both (h .kept) (k .kept) i)
 
+-- a call that refuses, and leaves the state and the runs as they were
+refusal-fixed : {A X : Type 0} (make : A → Builder → X) (say : ℕ → A) {n : ℕ} {a b : A} {s y z : Builder} {r u v : Runs} → a ≡ say n → b ≡ say n → ((m : ℕ) → a ≡ say m → (y ≡ s) × (u ≡ r))
+    → ((m : ℕ) → b ≡ say m → (z ≡ s) × (v ≡ r)) → _≡_ {A = X × Runs} (make a y, u) (make b z, v)
+refusal-fixed make say p q f g = λ i. (make (both p q i) (both (f _ p .0) (g _ q .0) i), both (f _ p .1) (g _ q .1) i)
+
 pub add-refused-fixed : OneAnswer.addRefusedFixed
-add-refused-fixed s r a e x y h k =
-    let g = h .refused _ (h .early e) in
-    let l = k .refused _ (k .early e) in
-    λ i. (record { answer = both (h .early e) (k .early e) i; state = both (g .0) (l .0) i }, both (g .1) (l .1) i)
+add-refused-fixed s r a e x y h k = refusal-fixed (λ b z. record { answer = b; state = z }) AnswerCase.Refused (h .early e) (k .early e) (h .refused) (k .refused)
 
 pub finish-refused-fixed : OneAnswer.finishRefusedFixed
-finish-refused-fixed s r e x y h k =
-    let g = h .refused _ (h .early e) in
-    let l = k .refused _ (k .early e) in
-    λ i. (record { answer = both (h .early e) (k .early e) i; state = both (g .0) (l .0) i }, both (g .1) (l .1) i)
+finish-refused-fixed s r e x y h k = refusal-fixed (λ b z. record { answer = b; state = z }) OutcomeCase.Refused (h .early e) (k .early e) (h .refused) (k .refused)
 
 pub finish-fixed : OneAnswer.finishFixed
 finish-fixed s r w x y h k =

@@ -2,11 +2,11 @@
 use Prim.Native.Nat.{ℕ, _≤_}
 use mathlib.Core.Path.{_≡_, refl, sym, _∙_, ap, ap₂, subst}
 use mathlib.Core.List.{List, [], _∷_, map, List·Memᴰ, List·Memᴰ·head, List·Memᴰ·tail, Memᴰ·map}
-use mathlib.Core.Bool.{true, false}
+use mathlib.Core.Bool.{true}
 use mathlib.Core.Option.{Option, none, some}
-use lib.Dec.{eqb}
+use lib.ListN.{length}
 use borrow.Author.Tests.{eqb-true, eqb-false}
-use Rattle.codec.proofs.Prelude.{test, apart, not-both}
+use Rattle.codec.proofs.Prelude.{apart, not-both}
 use Rattle.codec.proofs.Lists.{mem-unmap}
 use Rattle.keys.specs.Order.{Point, userOf, seqOf, kindOf}
 use Rattle.table.specs.Options.{Addition}
@@ -14,16 +14,17 @@ use Rattle.table.specs.Runs.{overlay}
 use Rattle.table.specs.Table.{plain, Found}
 use Rattle.table.specs.Promise.{Passed, notBelow, seekOf, lookupOf, Newest, additionOf}
 use Rattle.codec.specs.Limits.{within}
+use Rattle.codec.specs.Shown.{Shown}
+use Rattle.table.specs.Reads
 use Rattle.table.specs.Reads.{pointFits, Answer, foundOr, byKind, seekSays, lookupSays, bufferAfter}
 use Rattle.table.proofs.SearchLaws.{seek-means, lookup-means, seek-none-means, lookup-none-means}
 use Rattle.table.proofs.PlaceLaws.{values-stand}
 use Rattle.table.proofs.OverlayLaws.{overlay-front}
-use Rattle.table.proofs.ReadsLaws.{kind-none, kind-some}
+use Rattle.table.proofs.ReadsLaws.{by-kind}
 use Rattle.reader.specs.declared.table_reader.Entry.{Entry}
 use Rattle.reader.specs.declared.table_reader.Found as FoundEnum
 use Rattle.reader.specs.declared.table_reader.Found.the-variants as FoundCase
 use Rattle.reader.specs.declared.table_reader.Sought.{Sought}
-use Rattle.reader.specs.declared.table_reader.Sought.the-variants as SoughtCase
 use Rattle.reader.specs.Answers.{entryOf, soughtOf, lookedOf}
 use Rattle.reader.specs.Walk.{leastPoint, visitOf}
 use Rattle.reader.proofs.TourLaws.{walk-means}
@@ -37,86 +38,78 @@ unfolding entryOf
 gives t x m k k′ b {e} is =
     subst (λ (y : Entry). Gives t k′ y x) is (record { place = refl; key = overlay-front (x .key) k′ k b; value = sym (values-stand t x m) })
 
+-- a passed table shows what it says
+says : {R : Type 0} {show : Answer → R} {t : List ℕ} {p : Point} {s : Answer} (k : List ℕ) {r : R} {k′ : List ℕ} → Passed t → pointFits p ≡ true → 1032 ≤ length k
+    → Shown show (λ a. Reads.Sought t p s k a k′) r → (r ≡ show s) × (k′ ≡ bufferAfter s k)
+says {show = show} k q f l w = let e = w .is .table f l .passed q in (w .shown ∙ ap show e, w .is .buffer ∙ ap (λ (a : Answer). bufferAfter a k) e)
+
 -- ---- seek
 
 module _ (t : List ℕ) (q : Passed t) (p : Point) where
-  by-seek : (o : Option Found) → seekOf t p ≡ o → (k : List ℕ) {r : Sought} {k′ : List ℕ} → r ≡ soughtOf (foundOr o) → k′ ≡ bufferAfter (foundOr o) k → SeeksLeast t p k r k′
+  by-seek : (o : Option Found) → seekOf t p ≡ o → (k : List ℕ) {r : Sought} {k′ : List ℕ} → (r ≡ soughtOf (foundOr o)) × (k′ ≡ bufferAfter (foundOr o) k) → SeeksLeast t p k r k′
   unfolding soughtOf foundOr bufferAfter
-  by-seek none is k {r} {k′} e b =
-      record {
-        none = (λ _ x m n. not-both (notBelow p x) n (seek-none-means t p .0 is x m), λ _. e);
+  by-seek none is k (e, b) =
+      rw e (record {
+        none = (λ _ x m n. not-both (notBelow p x) n (seek-none-means t p .0 is x m), λ _. refl);
         kept = λ _. b;
-        entry = λ en g. let z : SoughtCase.None ≡ SoughtCase.Entry en = sym e ∙ g in apart cc;
-        answers = λ n g. let z : SoughtCase.None ≡ SoughtCase.Refused n = sym e ∙ g in apart cc;
-      }
-  by-seek (some x) is k {r} {k′} e b =
+        entry = λ en g. apart cc;
+        answers = λ n g. apart cc;
+      })
+  by-seek (some x) is k {k′ = k′} (e, b) =
       let l = seek-means t p q x .0 is in
-      record {
-        none = (λ g. let z : SoughtCase.Entry (entryOf x) ≡ SoughtCase.None = sym e ∙ g in apart cc, λ f. absurd (f x (l .stands) (l .reaches)));
-        kept = λ g. let z : SoughtCase.Entry (entryOf x) ≡ SoughtCase.None = sym e ∙ g in apart cc;
-        entry = λ en g.
-            let z : SoughtCase.Entry (entryOf x) ≡ SoughtCase.Entry en = sym e ∙ g in
-            let w : entryOf x ≡ en = cc in
-            (x, l, gives t x (l .stands) k k′ b w);
-        answers = λ n g. let z : SoughtCase.Entry (entryOf x) ≡ SoughtCase.Refused n = sym e ∙ g in apart cc;
-      }
+      rw e (record {
+        none = (λ g. apart cc, λ f. absurd (f x (l .stands) (l .reaches)));
+        kept = λ g. apart cc;
+        entry = λ en g. let w : entryOf x ≡ en = cc in (x, l, gives t x (l .stands) k k′ b w);
+        answers = λ n g. apart cc;
+      })
 
 pub seek-finds-least : seekFindsLeast
 unfolding seekSays
-seek-finds-least t q p f k l r k′ s =
-    let a-is : s .answer ≡ foundOr (seekOf t p) = s .is .table f l .passed q in
-    by-seek t q p (seekOf t p) refl k (s .shown ∙ ap soughtOf a-is) (s .is .buffer ∙ ap (λ (a : Answer). bufferAfter a k) a-is)
+seek-finds-least t q p f k l r k′ s = by-seek t q p (seekOf t p) refl k (says k q f l s)
 
 -- ---- lookup
 
-module _ (t : List ℕ) (q : Passed t) (p : Point) where
-  by-lookup : (o : Option Found) → lookupOf t p ≡ o → (k : List ℕ) {r : FoundEnum.Found} {k′ : List ℕ} → r ≡ lookedOf (byKind o) → k′ ≡ bufferAfter (byKind o) k → LooksNewest t p k r k′
-  unfolding byKind lookedOf bufferAfter
-  by-lookup none is k {r} {k′} e b =
-      record {
-        absent = (λ _. lookup-none-means t p .0 is, λ _. e);
-        kept = λ _. b;
-        entry = λ en g. let z : FoundCase.Absent ≡ FoundCase.Entry en = sym e ∙ g in apart cc;
-        gone = λ en g. let z : FoundCase.Absent ≡ FoundCase.Deleted en = sym e ∙ g in apart cc;
-        answers = λ n g. let z : FoundCase.Absent ≡ FoundCase.Refused n = sym e ∙ g in apart cc;
-      }
-  by-lookup (some x) is k {r} {k′} e b =
-      let n = lookup-means t p q x .0 is in
-      test (eqb (kindOf (x .key)) 0)
-      (λ z. gone-is n z (e ∙ ap lookedOf (kind-none x z)) (b ∙ ap (λ (a : Answer). bufferAfter a k) (kind-none x z)))
-      (λ z. entry-is n z (e ∙ ap lookedOf (kind-some x z)) (b ∙ ap (λ (a : Answer). bufferAfter a k) (kind-some x z)))
-    where
-      gone-is : Newest t p x → eqb (kindOf (x .key)) 0 ≡ true → r ≡ FoundCase.Deleted (entryOf x) → k′ ≡ overlay (x .key) k → LooksNewest t p k r k′
-      gone-is n z e b =
-          record {
-            absent = (λ g. let y : FoundCase.Deleted (entryOf x) ≡ FoundCase.Absent = sym e ∙ g in apart cc, λ f. absurd (f x (n .stands) (n .isWord) (n .notNewer)));
-            kept = λ g. let y : FoundCase.Deleted (entryOf x) ≡ FoundCase.Absent = sym e ∙ g in apart cc;
-            entry = λ en g. let y : FoundCase.Deleted (entryOf x) ≡ FoundCase.Entry en = sym e ∙ g in apart cc;
-            gone = λ en g.
-                let y : FoundCase.Deleted (entryOf x) ≡ FoundCase.Deleted en = sym e ∙ g in
-                let w : entryOf x ≡ en = cc in
-                (x, n, eqb-true (kindOf (x .key)) 0 z, gives t x (n .stands) k k′ b w);
-            answers = λ m g. let y : FoundCase.Deleted (entryOf x) ≡ FoundCase.Refused m = sym e ∙ g in apart cc;
-          }
+-- an entry as a lookup shows it, by its kind
+abbrev Kind : Found → FoundEnum.Found → Type 0
+Kind x (FoundCase.Entry e) = (kindOf (x .key) ≡ 0 → ⊥) × (entryOf x ≡ e)
+Kind x (FoundCase.Deleted e) = (kindOf (x .key) ≡ 0) × (entryOf x ≡ e)
+Kind x FoundCase.Absent = ⊥
+Kind x (FoundCase.Refused n) = ⊥
 
-      entry-is : Newest t p x → eqb (kindOf (x .key)) 0 ≡ false → r ≡ FoundCase.Entry (entryOf x) → k′ ≡ overlay (x .key) k → LooksNewest t p k r k′
-      entry-is n z e b =
-          record {
-            absent = (λ g. let y : FoundCase.Entry (entryOf x) ≡ FoundCase.Absent = sym e ∙ g in apart cc, λ f. absurd (f x (n .stands) (n .isWord) (n .notNewer)));
-            kept = λ g. let y : FoundCase.Entry (entryOf x) ≡ FoundCase.Absent = sym e ∙ g in apart cc;
-            entry = λ en g.
-                let y : FoundCase.Entry (entryOf x) ≡ FoundCase.Entry en = sym e ∙ g in
-                let w : entryOf x ≡ en = cc in
-                (x, n, eqb-false (kindOf (x .key)) 0 z, gives t x (n .stands) k k′ b w);
-            gone = λ en g. let y : FoundCase.Entry (entryOf x) ≡ FoundCase.Deleted en = sym e ∙ g in apart cc;
-            answers = λ m g. let y : FoundCase.Entry (entryOf x) ≡ FoundCase.Refused m = sym e ∙ g in apart cc;
-          }
+kind : (x : Found) (k : List ℕ) → Kind x (lookedOf (byKind (some x))) × (bufferAfter (byKind (some x)) k ≡ overlay (x .key) k)
+unfolding lookedOf bufferAfter
+kind x k =
+    by-kind (λ (a : Answer). Kind x (lookedOf a) × (bufferAfter a k ≡ overlay (x .key) k)) x
+    (λ z. ((eqb-true (kindOf (x .key)) 0 z, refl), refl))
+    (λ z. ((eqb-false (kindOf (x .key)) 0 z, refl), refl))
+
+module _ (t : List ℕ) (q : Passed t) (p : Point) where
+  by-lookup : (o : Option Found) → lookupOf t p ≡ o → (k : List ℕ) {r : FoundEnum.Found} {k′ : List ℕ} → (r ≡ lookedOf (byKind o)) × (k′ ≡ bufferAfter (byKind o) k) → LooksNewest t p k r k′
+  unfolding byKind lookedOf bufferAfter
+  by-lookup none is k (e, b) =
+      rw e (record {
+        absent = (λ _. lookup-none-means t p .0 is, λ _. refl);
+        kept = λ _. b;
+        entry = λ en g. apart cc;
+        gone = λ en g. apart cc;
+        answers = λ n g. apart cc;
+      })
+  by-lookup (some x) is k {r} {k′} (e, b) =
+      let n = lookup-means t p q x .0 is in
+      let shown : (c : FoundEnum.Found) → r ≡ c → Kind x c = λ c g. subst (Kind x) (sym e ∙ g) (kind x k .0) in
+      let given : (en : Entry) → entryOf x ≡ en → Gives t k′ en x = λ en g. gives t x (n .stands) k k′ (b ∙ kind x k .1) g in
+      record {
+        absent = (λ g. absurd (shown _ g), λ f. absurd (f x (n .stands) (n .isWord) (n .notNewer)));
+        kept = λ g. absurd (shown _ g);
+        entry = λ en g. let w = shown _ g in (x, n, w .0, given en (w .1));
+        gone = λ en g. let w = shown _ g in (x, n, w .0, given en (w .1));
+        answers = λ m g. shown _ g;
+      }
 
 pub lookup-finds-newest : lookupFindsNewest
 unfolding lookupSays
-lookup-finds-newest t q p f k l r k′ s =
-    let a-is : s .answer ≡ byKind (lookupOf t p) = s .is .table f l .passed q in
-    by-lookup t q p (lookupOf t p) refl k (s .shown ∙ ap lookedOf a-is) (s .is .buffer ∙ ap (λ (a : Answer). bufferAfter a k) a-is)
+lookup-finds-newest t q p f k l r k′ s = by-lookup t q p (lookupOf t p) refl k (says k q f l s)
 
 -- ---- lookup in what was built
 

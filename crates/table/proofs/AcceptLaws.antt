@@ -10,7 +10,8 @@ use native.Mathlib.Nat.{le-trans}
 use lib.Dec.{ltb, leb, isEq}
 use lib.ListN.{length, length-append}
 use borrow.Author.Tests.{le-leb, ltb-true, leb-true}
-use Rattle.codec.proofs.Prelude.{test, both, is-true, true-is}
+use Rattle.codec.proofs.Lists.{All, all-append}
+use Rattle.codec.proofs.Prelude.{test, both, is-true, true-is, apart}
 use Rattle.keys.specs.Order.{byBytes, bytesBelow, userOf, internal, pointOf, byPoint, below, separator}
 use Rattle.keys.proofs.OrderLaws.{Less, point-same, below-less, less-below, upTo-notBelow, below-le, below-trans, below-itself}
 use Rattle.keys.proofs.KeyLaws.{internal-length}
@@ -29,7 +30,7 @@ use Rattle.table.specs.Promise.{roundTrip, sameBytesSameAdditions}
 use Rattle.table.proofs.CheckedLaws.{passing, asking, pass-same}
 use Rattle.table.proofs.StandLaws.{follows-tells}
 use Rattle.table.proofs.StepLaws.{empty-small, last-none, last-some}
-use Rattle.table.proofs.PlainLaws.{Fit, AllFit, ChunksFit, allOf, table-plain}
+use Rattle.table.proofs.PlainLaws.{Fit, ChunksFit, allOf, table-plain}
 use Rattle.table.proofs.LetsLaws.{pairs}
 use Rattle.table.proofs.CheckLaws.{edge, GoodChunk, Good, table-passes}
 
@@ -69,50 +70,59 @@ edge-snoc : (before : Option Edge) (cs : List Chunk) (c : Chunk) → lastEdge be
 edge-snoc before [] c = refl
 edge-snoc before (d ∷ cs) c = edge-snoc (some (edge d)) cs c
 
-fit-snoc : (cs : List Chunk) (c : Chunk) → ChunksFit cs → AllFit (c .additions) → ChunksFit (cs ++ (c ∷ []))
-fit-snoc [] c f g = (g, tt)
-fit-snoc (d ∷ cs) c f g = (f .0, fit-snoc cs c (f .1) g)
-
 all-snoc : (cs : List Chunk) (c : Chunk) → allOf (cs ++ (c ∷ [])) ≡ allOf cs ++ c .additions
 unfolding allOf
 all-snoc [] c = append-nil (c .additions)
 all-snoc (d ∷ cs) c = rw (all-snoc cs c) (simp append-assoc)
 
--- ---- one more addition
-record FitParts (a : Addition) : Type 0 where
-  low : 1 ≤ length (a .word)
-  high : length (a .word) ≤ 1024
-  value : leb (length (a .value)) 32768 ≡ true
+-- ---- what the limits say
+
+pub within-parts : (lo hi x : ℕ) → within lo hi x ≡ true → (lo ≤ x) × (x ≤ hi)
+unfolding within
+within-parts lo hi x h = let (p, q) = both (leb lo x) (leb x hi) h in (leb-true lo x p, leb-true x hi q)
+
+within-is : (lo hi x : ℕ) → lo ≤ x → x ≤ hi → within lo hi x ≡ true
+unfolding within
+within-is lo hi x p q = rw (le-leb lo x p, le-leb x hi q)
+
+pub record FitParts (a : Addition) : Type 0 where
+  pub low : 1 ≤ length (a .word)
+  pub high : length (a .word) ≤ 1024
+  pub value : length (a .value) ≤ 32768
   edition : a .edition < 2 ^ 56
   kind : a .kind ≤ 1
 
-fit-parts : (a : Addition) → additionFits a ≡ true → FitParts a
-unfolding additionFits within
+pub fit-parts : (a : Addition) → additionFits a ≡ true → FitParts a
+unfolding additionFits
 fit-parts a h =
-    let w1 = leb 1 (length (a .word)) in
-    let w2 = leb (length (a .word)) 1024 in
-    let v = leb (length (a .value)) 32768 in
-    let e = ltb (a .edition) (2 ^ 56) in
-    let k = leb (a .kind) 1 in
-    let (w, r) = both (w1 && w2) (v && (e && k)) h in
-    let (hv, r2) = both v (e && k) r in
-    record {
-      low = leb-true 1 _ (both w1 w2 w .0);
-      high = leb-true _ 1024 (both w1 w2 w .1);
-      value = hv;
-      edition = ltb-true _ (2 ^ 56) (both e k r2 .0);
-      kind = leb-true _ 1 (both e k r2 .1);
-    }
+    let (w, r) = both (within 1 1024 (length (a .word))) _ h in
+    let (v, r2) = both (leb (length (a .value)) 32768) _ r in
+    let (e, k) = both (ltb (a .edition) (2 ^ 56)) _ r2 in
+    let word = within-parts 1 1024 (length (a .word)) w in
+    record { low = word .0; high = word .1; value = leb-true _ 32768 v; edition = ltb-true _ (2 ^ 56) e; kind = leb-true _ 1 k }
+
+pub record OptionParts (o : Options) : Type 0 where
+  pub least : 1 ≤ o .interval
+  pub most : o .interval ≤ 1024
+  pub size : 8 ≤ o .blockSize
+  pub filtering : filteringFits (o .filtering) ≡ true
+
+pub option-parts : (o : Options) → optionsFit o ≡ true → OptionParts o
+unfolding optionsFit
+option-parts o h =
+    let (i, r) = both (within 1 1024 (o .interval)) _ h in
+    let (b, f) = both (within 8 65536 (o .blockSize)) _ r in
+    let interval = within-parts 1 1024 (o .interval) i in
+    record { least = interval .0; most = interval .1; size = within-parts 8 65536 (o .blockSize) b .0; filtering = f }
+
+-- ---- one more addition
 
 addition-entry : (a : Addition) → additionFits a ≡ true → (entryFits dataBlock) (pairOf a) ≡ true
-unfolding entryFits pairOf keyOf within
+unfolding entryFits pairOf keyOf
 addition-entry a h =
     let p = fit-parts a h in
-    let k = internal (a .word) (a .edition) (a .kind) in
     let l = internal-length (a .word) (a .edition) (a .kind) in
-    let lo : 9 ≤ length k = omega (arith, p .low) in
-    let hi : length k ≤ 1032 = omega (arith, p .high) in
-    rw (le-leb 9 (length k) lo, le-leb (length k) 1032 hi, p .value)
+    rw (within-is 9 1032 (length (internal (a .word) (a .edition) (a .kind))) (omega (arith, p .low)) (omega (arith, p .high)), le-leb (length (a .value)) 32768 (p .value))
 
 addition-fit : (a : Addition) → additionFits a ≡ true → Fit a
 addition-fit a h = let p = fit-parts a h in record { edition = p .edition; kind = omega (arith, p .kind) }
@@ -121,23 +131,23 @@ pub record Open (before : Option Edge) (xs : List Addition) : Type 0 where
   pub fit : all (entryFits dataBlock) (map pairOf xs) ≡ true
   follows : 0 < length xs → Table.firstFollows before (map pairOf xs) ≡ true
   pub rising : rises below (map pairOf xs) ≡ true
-  small : AllFit xs
+  small : All Fit xs
 
-all-fit-snoc : (xs : List Addition) (a : Addition) → AllFit xs → Fit a → AllFit (xs ++ (a ∷ []))
-all-fit-snoc [] a f g = (g, tt)
-all-fit-snoc (x ∷ xs) a f g = (f .0, all-fit-snoc xs a (f .1) g)
+open-none : (before : Option Edge) → Open before []
+unfolding all rises
+open-none before = record { fit = refl; follows = λ l. absurd (omega arith); rising = refl; small = All.nil }
 
 open-more : (before : Option Edge) (xs : List Addition) (a : Addition) → Open before xs → additionFits a ≡ true → above a xs ≡ true
     → (length xs ≡ 0 → Table.firstFollows before (pairOf a ∷ []) ≡ true) → Open before (xs ++ (a ∷ []))
 unfolding above lastKey all rises Table.firstFollows pairOf
 open-more before [] a o fits up first =
-    record { fit = rw (addition-entry a fits); follows = λ l. first refl; rising = refl; small = (addition-fit a fits, tt) }
+    record { fit = rw (addition-entry a fits); follows = λ l. first refl; rising = refl; small = All.cons (addition-fit a fits) All.nil }
 open-more before (x ∷ xs) a o fits up first =
     record {
       fit = rw (map-append pairOf xs (a ∷ [])) (all-more (entryFits dataBlock) (map pairOf (x ∷ xs)) (pairOf a) (o .fit) (addition-entry a fits));
       follows = λ l. o .follows (omega arith);
       rising = rw (map-append pairOf xs (a ∷ [])) (rises-more below (pairOf x) (map pairOf xs) (pairOf a) (o .rising) up);
-      small = all-fit-snoc (x ∷ xs) a (o .small) (addition-fit a fits);
+      small = all-append (o .small) (All.cons (addition-fit a fits) All.nil);
     }
 
 -- ---- a chunk closed: before an addition, and at the end
@@ -179,21 +189,13 @@ pub record Inv (b : Building) (done : List Addition) : Type 0 where
   allDone : allOf (b .closed) ++ b .openBlock ≡ done
 
 pub inv-begin : Inv begin []
-unfolding begin all rises allOf
-inv-begin = record { closedGood = tt; closedFit = tt; isOpen = record { fit = refl; follows = λ l. absurd (omega arith); rising = refl; small = tt }; start = λ e. refl; allDone = refl }
+unfolding begin allOf
+inv-begin = record { closedGood = tt; closedFit = All.nil; isOpen = open-none none; start = λ e. refl; allDone = refl }
 
 -- an empty block is 8 bytes
 empty-length : (o : Options) → length (chunkBytes o []) ≡ 8
 unfolding chunkBytes
 empty-length o = none-long (o .interval)
-
-pub within-parts : (lo hi x : ℕ) → within lo hi x ≡ true → (lo ≤ x) × (x ≤ hi)
-unfolding within
-within-parts lo hi x h = let (p, q) = both (leb lo x) (leb x hi) h in (leb-true lo x p, leb-true x hi q)
-
-within-is : (lo hi x : ℕ) → lo ≤ x → x ≤ hi → within lo hi x ≡ true
-unfolding within
-within-is lo hi x p q = rw (le-leb lo x p, le-leb x hi q)
 
 sep-length : (a b : List ℕ) → within 9 1032 (length a) ≡ true → within 9 1032 (length (separator a b)) ≡ true
 sep-length a b h =
@@ -231,11 +233,7 @@ open-some o (x ∷ xs) r h = omega arith
 none-to-follow : (cs : List Chunk) (a : Addition) → cs ≡ [] → Table.firstFollows (lastEdge none cs) (pairOf a ∷ []) ≡ true
 unfolding Table.firstFollows Table.follows
 none-to-follow [] a e = refl
-none-to-follow (c ∷ cs) a e = let z : _≡_ {A = ℕ} 0 1 = cc in absurd (omega arith)
-
-open-none : (before : Option Edge) → Open before []
-unfolding all rises
-open-none before = record { fit = refl; follows = λ l. absurd (omega arith); rising = refl; small = tt }
+none-to-follow (c ∷ cs) a e = apart cc
 
 module _ (o : Options) (room-for-empty : 8 ≤ o .blockSize) where
   add-inv : (b : Building) (done : List Addition) (a : Addition) → Inv b done → additionFits a ≡ true → above a (b .openBlock) ≡ true
@@ -255,7 +253,7 @@ module _ (o : Options) (room-for-empty : 8 ≤ o .blockSize) where
       close-good (lastEdge none cs) xs key (i .isOpen) full (upTo-notBelow (lastKey xs) key (sep .from)) (sep-length (lastKey xs) (keyOf a) (last-key-fits xs full (i .isOpen .fit))) in
       rw (closeBefore, t) (record {
         closedGood = good-snoc none cs c (i .closedGood) good;
-        closedFit = fit-snoc cs c (i .closedFit) (i .isOpen .small);
+        closedFit = all-append (i .closedFit) (All.cons (i .isOpen .small) All.nil);
         isOpen = rw (edge-snoc none cs c) (open-more (some (edge c)) [] a (open-none (some (edge c))) fits (above-none a) (λ e. follows-sep xs key a less sep));
         start = λ e. absurd (omega arith);
         allDone = rw (all-snoc cs c, i .allDone);
@@ -292,7 +290,7 @@ finished b done i = go (b .openBlock) refl
         (last-key-fits (b .openBlock) full (i .isOpen .fit)) in
         record {
           good = rw (last-some b x xs e) (good-snoc none (b .closed) c (i .closedGood) good);
-          fit = rw (last-some b x xs e) (fit-snoc (b .closed) c (i .closedFit) (i .isOpen .small));
+          fit = rw (last-some b x xs e) (all-append (i .closedFit) (All.cons (i .isOpen .small) All.nil));
           all = rw (last-some b x xs e, all-snoc (b .closed) c) (i .allDone);
         }
 
@@ -344,19 +342,11 @@ pub begin-is : (o : Options) → finish o begin ≡ table o []
 unfolding finish closeLast begin
 begin-is o = refl
 
-pub size-fits : (o : Options) → optionsFit o ≡ true → 8 ≤ o .blockSize
-unfolding optionsFit
-size-fits o h =
-    let i = within 1 1024 (o .interval) in
-    let b = within 8 65536 (o .blockSize) in
-    let f = filteringFits (o .filtering) in
-    within-parts 8 65536 (o .blockSize) (both b f (both i (b && f) h .1) .0) .0
-
 pub round-trip : roundTrip
 unfolding finish
 round-trip o room more t u =
     let b = u .last in
-    let a = accepted o room tableLimit (size-fits o (is-true (optionsFit o) (u .fits))) (u .limited) begin [] more b inv-begin (rw begin-is (empty-small o)) (u .accepts) in
+    let a = accepted o room tableLimit (option-parts o (is-true (optionsFit o) (u .fits)) .size) (u .limited) begin [] more b inv-begin (rw begin-is (empty-small o)) (u .accepts) in
     let f = finished b more (a .0) in
     let cs = closeLast b .closed in
     rw (← u .finishes) (

@@ -1,4 +1,4 @@
--- Document 01's cases: those marked P as one table with one statement, the others computed likewise.
+-- The rules' cases: those marked P as one table with one statement, the others computed likewise.
 use Prim.Native.Nat.{ℕ}
 use mathlib.Core.Path.{_≡_, refl}
 use mathlib.Core.List.{List, [], _∷_, _++_, map}
@@ -15,7 +15,7 @@ use Rattle.table.specs.Options.{Options, indexInterval, Addition}
 use Rattle.table.specs.Table.{magic}
 use Rattle.table.specs.Build.{keyOf, pairOf, framed, chunkBytes, Chunk, written, endOf, indexPairs, filtersOf, filterBytes, metaName, metaPair, metaBytes, indexBytes, untilMeta, untilIndex, untilFooter, metaHandle, indexHandle, footerBytes, table, Building, begin, lastKey, close, closeBefore, add}
 
--- what the definitions give, and what document 01 says
+-- what the definitions give, and what the rules say
 pub record Case : Type 0 where
   pub is : List ℕ
   pub should : List ℕ

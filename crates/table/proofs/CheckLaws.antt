@@ -23,8 +23,8 @@ use Rattle.table.specs.Options.{Options, indexInterval, tableLimit}
 use Rattle.table.specs.Table
 use Rattle.table.specs.Table.{Edge}
 use Rattle.table.specs.Build.{Chunk, framed, chunkBytes, written, endOf, indexPairs, filtersOf, filterBytes, metaName, metaPair, metaBytes, indexBytes, untilMeta, untilIndex, metaHandle, indexHandle, table}
-use Rattle.table.proofs.FrameLaws.{its, framed-length, framed-contents, framed-sealed, framed-placed, footer-long}
-use Rattle.table.proofs.PlainLaws.{handle-of, end-of, foot, at-index, at-meta, at-filter, table-long, limit, table-footer}
+use Rattle.table.proofs.FrameLaws.{its, framed-length, framed-contents, framed-sealed, framed-placed, fits-within, footer-long}
+use Rattle.table.proofs.PlainLaws.{handle-of, end-of, foot, at-index, at-meta, at-filter, table-long, table-footer}
 use Rattle.table.proofs.LetsLaws.{pairs, Lets, lets-unfiltered, filter-lets}
 
 -- ---- good chunks
@@ -162,14 +162,11 @@ module _ (o : Options) (cs : List Chunk) (small : length (table o cs) ≤ tableL
   abbrev i : ℕ
   i = indexInterval o
 
-  lim : length t ≤ 2 ^ 24
-  lim = limit o cs small
-
   abbrev filterHandle : Handle
   filterHandle = its (written o cs) (filterBytes o cs)
 
   fits-filter : Fits filterHandle
-  fits-filter = record { offset = omega (arith, table-long o cs, lim); size = omega (arith, table-long o cs, lim) }
+  fits-filter = fits-within filterHandle (omega (arith, table-long o cs))
 
   meta-good : all (entryFits metaBlock) (metaPair o cs ∷ []) ≡ true
   unfolding metaPair
@@ -183,7 +180,7 @@ module _ (o : Options) (cs : List Chunk) (small : length (table o cs) ≤ tableL
   table-meta =
       rw (at-meta o cs)
       (sorted-some metaBlock _ _ _ (framed-sealed (untilMeta o cs) (metaBytes o cs) _)
-      (block-passes d (untilMeta o cs) _ (metaPair o cs ∷ []) metaBlock (omega (arith, table-long o cs, lim)) (unfold enough in refl) meta-good)
+      (block-passes d (untilMeta o cs) _ (metaPair o cs ∷ []) metaBlock (omega (arith, table-long o cs)) (unfold enough in refl) meta-good)
       (rw (planned-pairs d d [] 0 (metaPair o cs ∷ [])) (meta-rises (metaPair o cs))))
 
   table-index : Table.sortedAt indexBlock t (indexHandle o cs) ≡ pass (planned i i [] 0 (indexPairs o 0 cs))
@@ -191,8 +188,8 @@ module _ (o : Options) (cs : List Chunk) (small : length (table o cs) ≤ tableL
   table-index =
       rw (at-index o cs)
       (sorted-some indexBlock _ _ _ (framed-sealed (untilIndex o cs) (indexBytes o cs) _)
-      (block-passes i (untilIndex o cs) _ (indexPairs o 0 cs) indexBlock (omega (arith, table-long o cs, lim)) (unfold enough in refl)
-      (index-fit o none 0 cs good (omega (arith, table-long o cs, lim))))
+      (block-passes i (untilIndex o cs) _ (indexPairs o 0 cs) indexBlock (omega (arith, table-long o cs)) (unfold enough in refl)
+      (index-fit o none 0 cs good (omega (arith, table-long o cs))))
       (rw (planned-pairs i i [] 0 (indexPairs o 0 cs)) rising))
 
   abbrev groups : List (List ℕ)
@@ -203,7 +200,7 @@ module _ (o : Options) (cs : List Chunk) (small : length (table o cs) ≤ tableL
   filter-made = refl
 
   made-small : length (madeBytes (o .filtering) groups) < 2 ^ 32
-  made-small = omega (arith, table-long o cs, lim, made-long (o .filtering) groups, ap length filter-made)
+  made-small = omega (arith, table-long o cs, made-long (o .filtering) groups, ap length filter-made)
 
   table-filter : Table.filterOf t (some filterHandle) ≡ pass (some (filterBlockBytes (o .filtering) groups))
   table-filter =
@@ -216,7 +213,7 @@ module _ (o : Options) (cs : List Chunk) (small : length (table o cs) ≤ tableL
   table-data : (f : Option (List ℕ)) → Lets o f 0 cs → Table.dataBlocksOf t f none (indexPairs o 0 cs) ≡ pass tt
   table-data f lets =
       let rest = framed (filterBytes o cs) ++ (framed (metaBytes o cs) ++ (framed (indexBytes o cs) ++ foot o cs)) in
-      rw (at-filter o cs) (data-chunks o [] rest f none cs good lets (rw (← at-filter o cs) (omega (arith, lim))) (simp (length-append, foot-long) (omega arith)))
+      rw (at-filter o cs) (data-chunks o [] rest f none cs good lets (rw (← at-filter o cs) (omega arith)) (simp (length-append, foot-long) (omega arith)))
 
   bloom-is : (c : Filtering) (r : Option Handle) → o .filtering ≡ c → Table.bloomHandle (record { key = metaName c; value = handleBytes filterHandle } ∷ []) ≡ r
       → Table.bloomHandle (metaPair o cs ∷ []) ≡ r

@@ -7,7 +7,7 @@ use native.Mathlib.Omega.{arith}
 use lib.Dec.{ltb}
 use lib.ListN.{length, length-append}
 use Rattle.codec.specs.Varint.{handleBytes}
-use Rattle.codec.proofs.Prelude.{test}
+use Rattle.codec.proofs.Prelude.{test, apart}
 use Rattle.keys.specs.Order.{separator}
 use Rattle.blocks.specs.Count.{countOf, noEntries, countEntry, countSize}
 use Rattle.blocks.proofs.BuildLaws.{one-long}
@@ -119,7 +119,7 @@ module _ (o : Options) where
     where
       go : (xs : List Addition) (n : ℕ) → b .openBlock ≡ xs → countsOf o b .openBlock .restarts ≡ n → countsOf o (closeLast b) ≡ countCloseLast o (countsOf o b)
       go [] n e r = rw (last-none b e, count-last-none (countsOf o b) (count-zero (o .interval) (map pairOf (b .openBlock)) .1 (rw e)))
-      go (x ∷ xs) zero e r = let z : _≡_ {A = ℕ} 0 1 = cc (count-zero (o .interval) (map pairOf (b .openBlock)) .0 r) in absurd (omega arith)
+      go (x ∷ xs) zero e r = apart (cc (count-zero (o .interval) (map pairOf (b .openBlock)) .0 r))
       go (x ∷ xs) (suc n) e r = rw (last-some b x xs e, count-last-some (countsOf o b) n r) (counts-close (lastKey (b .openBlock)) b)
 
   filter-block-size : (cs : List Chunk) → length (filterBytes o cs) ≡ filterBlockSize (countLast (o .filtering) (filterCountOf (o .filtering) (filtersOf o 0 noFilters cs)))

@@ -28,6 +28,10 @@ framed-length s = simp (length-append, trailer-length)
 abbrev pub its : List ℕ → List ℕ → Handle
 its pre s = record { offset = length pre; size = length s }
 
+-- the numbers of a handle within a table are small enough
+pub fits-within : (h : Handle) → h .offset + h .size ≤ tableLimit → Fits h
+fits-within h l = record { offset = omega arith; size = omega arith }
+
 module _ (pre s post : List ℕ) where
   abbrev t : List ℕ
   t = pre ++ (framed s ++ post)
@@ -45,6 +49,7 @@ module _ (pre s post : List ℕ) where
   framed-placed h = cc (le-leb (length pre + length s + 5) (length t - 48) (omega arith))
 
 -- ---- the footer
+
 footer-some : (t : List ℕ) (m i : HandleRead) → 48 ≤ length t → length t ≤ tableLimit → drop (length t - 8) t ≡ magic
     → handle (part t (length t - 48) 40) ≡ some m → handle (drop (m .size) (part t (length t - 48) 40)) ≡ some i
     → placed t (m .handle) ≡ pass tt → placed t (i .handle) ≡ pass tt
@@ -87,17 +92,17 @@ module _ (pre : List ℕ) (m i : Handle) where
         append-assoc (handleBytes m) (handleBytes i) r,
       )
 
-  pub footer-bytes : Fits m → Fits i → length (pre ++ footerBytes m i) ≤ tableLimit
+  pub footer-bytes : length (pre ++ footerBytes m i) ≤ tableLimit
       → m .offset + m .size + 5 ≤ length pre → i .offset + i .size + 5 ≤ length pre
       → footer (pre ++ footerBytes m i) ≡ pass (record { metaindex = m; index = i })
   unfolding placed endsBefore ask
-  footer-bytes fm fi small lm li =
+  footer-bytes small lm li =
       let t = pre ++ footerBytes m i in
       let l = length-append pre (footerBytes m i) in
       let l48 = footer-long m i in
       footer-some t (record { handle = m; size = length (handleBytes m) }) (record { handle = i; size = length (handleBytes i) })
       (omega arith) small footer-magic
-      (rw footer-part (handle-bytes m _ fm))
-      (rw (footer-part, drop-append-seam) (handle-bytes i _ fi))
+      (rw footer-part (handle-bytes m _ (fits-within m (omega arith))))
+      (rw (footer-part, drop-append-seam) (handle-bytes i _ (fits-within i (omega arith))))
       (cc (le-leb (m .offset + m .size + 5) (length t - 48) (omega arith)))
       (cc (le-leb (i .offset + i .size + 5) (length t - 48) (omega arith)))

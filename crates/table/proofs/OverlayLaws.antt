@@ -8,7 +8,7 @@ use lib.Seq.{take-at, drop-at, drop-drop}
 use Rattle.codec.specs.Bytes.{part}
 use Rattle.codec.specs.Put.{put}
 use Rattle.codec.proofs.PutLaws.{put-room}
-use Rattle.table.specs.Runs.{overlay}
+use Rattle.table.specs.Runs.{Runs, overlay, overlaid}
 
 pub overlay-none : (r : List ℕ) → r ≡ overlay [] r
 unfolding overlay
@@ -68,3 +68,42 @@ overlay-at w x e r p q d =
     ∙ ap₂ _++_ p (sym (take-append-drop (length x) (drop (length w) e)) ∙ ap₂ _++_ q (drop-drop (length x) (length w) e ∙ d))
     ∙ sym (append-assoc w x (drop (length w + length x) r))
     ∙ ap (λ (n : ℕ). w ++ x ++ drop n r) (sym (length-append w x))
+
+-- ---- all seven runs
+
+-- each by itself
+pub record Each (d r r′ : Runs) : Type 0 where
+  pub out : r′ .out ≡ overlay (d .out) (r .out)
+  pub index : r′ .index ≡ overlay (d .index) (r .index)
+  pub filters : r′ .filters ≡ overlay (d .filters) (r .filters)
+  pub restarts : r′ .restarts ≡ overlay (d .restarts) (r .restarts)
+  pub indexRestarts : r′ .indexRestarts ≡ overlay (d .indexRestarts) (r .indexRestarts)
+  pub offsets : r′ .offsets ≡ overlay (d .offsets) (r .offsets)
+  pub hashes : r′ .hashes ≡ overlay (d .hashes) (r .hashes)
+
+module _ {d r r′ : Runs} where
+  pub each : r′ ≡ overlaid d r → Each d r r′
+  unfolding overlaid
+  each e =
+      record {
+        out = ap (λ (x : Runs). x .out) e;
+        index = ap (λ (x : Runs). x .index) e;
+        filters = ap (λ (x : Runs). x .filters) e;
+        restarts = ap (λ (x : Runs). x .restarts) e;
+        indexRestarts = ap (λ (x : Runs). x .indexRestarts) e;
+        offsets = ap (λ (x : Runs). x .offsets) e;
+        hashes = ap (λ (x : Runs). x .hashes) e;
+      }
+
+  pub all-seven : Each d r r′ → r′ ≡ overlaid d r
+  unfolding overlaid
+  all-seven e = λ i.
+      record {
+        out = e .out i;
+        index = e .index i;
+        filters = e .filters i;
+        restarts = e .restarts i;
+        indexRestarts = e .indexRestarts i;
+        offsets = e .offsets i;
+        hashes = e .hashes i;
+      }

@@ -1,5 +1,5 @@
 -- The entries of a table have places of their own, so `after` goes from each entry to the one that follows it.
-use Prim.Native.Nat.{ℕ, _<_}
+use Prim.Native.Nat.{ℕ, _+_, _<_}
 use mathlib.Core.Path.{_≡_, refl, sym, _∙_}
 use mathlib.Core.Bool.{not}
 use mathlib.Core.List.{List, [], _∷_, _++_, head?, List·Memᴰ·head, Memᴰ·append-right}
@@ -18,13 +18,31 @@ use Rattle.table.specs.Checked.{Checked, pass, refuse}
 use Rattle.table.specs.Table.{Footer, footer, Found, foundIn, handleOf, contents, entriesAt, foundsOf, readBlocks, plain}
 use Rattle.table.specs.Promise.{isAt, after, afterMeans, noPlaceMeans, placesDiffer, valuesStand}
 
-entries-starts : (t : List ℕ) (h : Handle) → Pairs StartsBefore (entriesAt t h)
+-- ---- what holds of the entries
+
+-- of a block's, where it can be read
+pub entries-of : (P : List Entry → Type 0) (t : List ℕ) (h : Handle) → P [] → ((b : Block) → block (contents t h) ≡ some b → P (b .entries)) → P (entriesAt t h)
 unfolding entriesAt
-entries-starts t h = go (block (contents t h)) refl
+entries-of P t h none-there f = go (block (contents t h)) refl
   where
-    go : (o : Option Block) → block (contents t h) ≡ o → Pairs StartsBefore (entriesAt t h)
-    go none e = rw (e, entriesAt) Pairs.nil
-    go (some b) e = rw (e, entriesAt) (block-starts (contents t h) e)
+    go : (o : Option Block) → block (contents t h) ≡ o → P (entriesAt t h)
+    go none e = rw (e, entriesAt) none-there
+    go (some b) e = rw (e, entriesAt) (f b e)
+
+-- of all blocks', by their index entries
+pub all-blocks : (t : List ℕ) {P : Found → Type 0} {Q : Entry → Type 0} → ((ix : Entry) → Q ix → All P (foundsOf t ix)) → {ixs : List Entry} → All Q ixs → All P (readBlocks t ixs)
+unfolding readBlocks
+all-blocks t f All.nil = All.nil
+all-blocks t f (All.cons {x = ix} q qs) = all-append (f ix q) (all-blocks t f qs)
+
+-- of a table's, passed or not
+plain-of : (P : List Found → Type 0) (t : List ℕ) → P [] → ((h : Handle) → P (readBlocks t (entriesAt t h))) → P (plain t)
+unfolding plain
+plain-of P t none-there f = go (footer t) refl
+  where
+    go : (c : Checked Footer) → footer t ≡ c → P (plain t)
+    go (pass ft) e = rw (e, plain) (f (ft .index))
+    go (refuse n) e = rw (e, plain) none-there
 
 -- ---- places
 
@@ -42,26 +60,24 @@ apart-across x y h t =
     let e = eqb→eq (x .indexStart) (y .indexStart) (and-l (eqb (x .indexStart) (y .indexStart)) (eqb (x .start) (y .start)) t) in omega arith
 
 module _ (t : List ℕ) where
+  entries-starts : (h : Handle) → Pairs StartsBefore (entriesAt t h)
+  entries-starts h = entries-of (Pairs StartsBefore) t h Pairs.nil (λ b e. block-starts (contents t h) e)
+
   of-block : (ix : Entry) → All (λ (x : Found). x .indexStart ≡ ix .start) (foundsOf t ix)
   unfolding foundsOf
   of-block ix = all-map (foundIn ix) (all-of (entriesAt t (handleOf (ix .value))) (λ e m. refl))
 
   block-places : (ix : Entry) → Pairs Apart (foundsOf t ix)
   unfolding foundsOf
-  block-places ix = pairs-map (foundIn ix) (pairs-imp (λ a b h. apart-in (foundIn ix a) (foundIn ix b) h) (entries-starts t (handleOf (ix .value))))
-
-  later-starts : (k : ℕ) {ixs : List Entry} → All (λ (i : Entry). k < i .start) ixs → All (λ (x : Found). k < x .indexStart) (readBlocks t ixs)
-  unfolding readBlocks
-  later-starts k All.nil = All.nil
-  later-starts k (All.cons {x = ix} h hs) =
-      all-append (all-imp (λ x e. rw e h) (of-block ix)) (later-starts k hs)
+  block-places ix = pairs-map (foundIn ix) (pairs-imp (λ a b h. apart-in (foundIn ix a) (foundIn ix b) h) (entries-starts (handleOf (ix .value))))
 
   places : {ixs : List Entry} → Pairs StartsBefore ixs → Pairs Apart (readBlocks t ixs)
   unfolding readBlocks
   places Pairs.nil = Pairs.nil
   places (Pairs.cons {x = ix} q qs) =
+      let later = all-blocks t {P = λ (x : Found). ix .start < x .indexStart} (λ i h. all-imp (λ x e. rw e h) (of-block i)) q in
       pairs-append (block-places ix)
-      (all-imp (λ x e. all-imp (λ y h. apart-across x y (rw e h)) (later-starts (ix .start) q)) (of-block ix))
+      (all-imp (λ x e. all-imp (λ y h. apart-across x y (rw e h)) later) (of-block ix))
       (places qs)
 
 -- from an entry to the next
@@ -75,14 +91,8 @@ after-next (b ∷ bs) x cs (Pairs.cons q qs) =
     rw (is-false (isAt (x .indexStart) (x .start) b) (not-T (isAt (x .indexStart) (x .start) b) (all-mem q (Memᴰ·append-right bs (List·Memᴰ·head refl)))), after)
     (after-next bs x cs qs)
 
--- of any table, passed or not
 pub plain-places : (t : List ℕ) → Pairs Apart (plain t)
-unfolding plain
-plain-places t = go (footer t) refl
-  where
-    go : (c : Checked Footer) → footer t ≡ c → Pairs Apart (plain t)
-    go (pass ft) e = rw (e, plain) (places t (entries-starts t (ft .index)))
-    go (refuse n) e = rw (e, plain) Pairs.nil
+plain-places t = plain-of (Pairs Apart) t Pairs.nil (λ h. places t (entries-starts t h))
 
 pub places-differ : placesDiffer
 places-differ t bs x cs y ds e = not-T (isAt (y .indexStart) (y .start) x) (pairs-at bs cs ds (rw e at (plain-places t)))
@@ -112,31 +122,17 @@ no-place-means t ix at = (λ e x m. all-mem (after-none ix at (plain t) e) m, λ
 abbrev Stands : List ℕ → Found → Type 0
 Stands t x = x .value ≡ part t (x .valueAt) (length (x .value))
 
-entries-values : (t : List ℕ) (h : Handle) → All (ValueIn (contents t h)) (entriesAt t h)
-unfolding entriesAt
-entries-values t h = go (block (contents t h)) refl
-  where
-    go : (o : Option Block) → block (contents t h) ≡ o → All (ValueIn (contents t h)) (entriesAt t h)
-    go none e = rw (e, entriesAt) All.nil
-    go (some b) e = rw (e, entriesAt) (block-values (contents t h) e)
-
 module _ (t : List ℕ) where
-  entry-stands : (ix e : Entry) → ValueIn (contents t (handleOf (ix .value))) e → Stands t (foundIn ix e)
+  -- where a value stands in its block, it stands in the table
+  pub value-stands : (h : Handle) (e : Entry) → ValueIn (contents t h) e → e .value ≡ part t (h .offset + e .valueAt) (length (e .value))
   unfolding contents
-  entry-stands ix e v =
-      let h = handleOf (ix .value) in
-      v .is ∙ part-part t (h .offset) (h .size) (e .valueAt) (length (e .value)) (omega (arith, v .ends, part-most t (h .offset) (h .size)))
+  value-stands h e v = v .is ∙ part-part t (h .offset) (h .size) (e .valueAt) (length (e .value)) (omega (arith, v .ends, part-most t (h .offset) (h .size)))
 
-  blocks-values : (ixs : List Entry) → All (Stands t) (readBlocks t ixs)
-  unfolding readBlocks foundsOf
-  blocks-values [] = All.nil
-  blocks-values (ix ∷ ixs) =
-      all-append (all-map (foundIn ix) (all-imp (entry-stands ix) (entries-values t (handleOf (ix .value))))) (blocks-values ixs)
+  block-values-stand : (ix : Entry) → All (Stands t) (foundsOf t ix)
+  unfolding foundsOf
+  block-values-stand ix =
+      let h = handleOf (ix .value) in
+      all-map (foundIn ix) (all-imp (value-stands h) (entries-of (All (ValueIn (contents t h))) t h All.nil (λ b e. block-values (contents t h) e)))
 
 pub values-stand : valuesStand
-unfolding plain
-values-stand t x m = all-mem (go (footer t) refl) m
-  where
-    go : (c : Checked Footer) → footer t ≡ c → All (Stands t) (plain t)
-    go (pass ft) e = rw (e, plain) (blocks-values t (entriesAt t (ft .index)))
-    go (refuse n) e = rw (e, plain) All.nil
+values-stand t x m = all-mem (plain-of (All (Stands t)) t All.nil (λ h. all-blocks t (λ ix s. s) (all-any (entriesAt t h) (block-values-stand t)))) m

@@ -5,6 +5,7 @@ use mathlib.Core.List.{List, [], _∷_, _++_, map, map-append, append-assoc}
 use native.Mathlib.Omega.{arith}
 use lib.ListN.{length, length-append}
 use Rattle.codec.specs.Varint.{Handle, handleBytes}
+use Rattle.codec.proofs.Lists.{All}
 use Rattle.codec.proofs.VarintLaws.{Fits, one-handle}
 use Rattle.keys.proofs.KeyLaws.{user-internal, seq-internal, kind-internal}
 use Rattle.blocks.specs.Block.{Pair, Entry, blockBytes, sharing, since, entryBytes}
@@ -21,13 +22,8 @@ pub record Fit (a : Addition) : Type 0 where
   pub edition : a .edition < 2 ^ 56
   pub kind : a .kind < 256
 
-abbrev pub AllFit : List Addition → Type 0
-AllFit [] = Unit {0}
-AllFit (a ∷ more) = Fit a × AllFit more
-
 abbrev pub ChunksFit : List Chunk → Type 0
-ChunksFit [] = Unit {0}
-ChunksFit (c ∷ cs) = AllFit (c .additions) × ChunksFit cs
+ChunksFit cs = All (λ (c : Chunk). All Fit (c .additions)) cs
 
 unfoldable pub allOf : List Chunk → List Addition
 allOf [] = []
@@ -50,12 +46,12 @@ unfolding additionOf keyOf
 addition-back a f x k v =
     rw (k, v, user-internal (a .word) (a .edition) (a .kind), seq-internal (a .word) (a .edition) (a .kind) (f .kind) (f .edition), kind-internal (a .word) (a .edition) (a .kind) (f .kind) (f .edition))
 
-founds-back : (ix : Entry) (i n : ℕ) (before : List ℕ) (at : ℕ) (xs : List Addition) → AllFit xs
+founds-back : (ix : Entry) (i n : ℕ) (before : List ℕ) (at : ℕ) (xs : List Addition) → All Fit xs
     → map additionOf (map (foundIn ix) (planned i n before at (map pairOf xs))) ≡ xs
 unfolding planned pairOf
-founds-back ix i n before at [] f = refl
-founds-back ix i n before at (a ∷ more) f =
-    ap₂ _∷_ (addition-back a (f .0) _ refl refl) (founds-back ix i _ _ _ more (f .1))
+founds-back ix i n before at [] All.nil = refl
+founds-back ix i n before at (a ∷ more) (All.cons f fs) =
+    ap₂ _∷_ (addition-back a f _ refl refl) (founds-back ix i _ _ _ more fs)
 
 founds-of : (t : List ℕ) (ix : Entry) (h : Handle) (es : List Entry) → handleOf (ix .value) ≡ h → entriesAt t h ≡ es → foundsOf t ix ≡ map (foundIn ix) es
 unfolding foundsOf
@@ -75,8 +71,8 @@ module _ (o : Options) where
       → length (pre ++ (written o cs ++ post)) < 2 ^ 32
       → map additionOf (readBlocks (pre ++ (written o cs ++ post)) (planned i n before at (indexPairs o (length pre) cs))) ≡ allOf cs
   unfolding written indexPairs planned readBlocks allOf
-  reads-chunks pre post [] i n before at f small = refl
-  reads-chunks pre post (c ∷ cs) i n before at f small =
+  reads-chunks pre post [] i n before at All.nil small = refl
+  reads-chunks pre post (c ∷ cs) i n before at (All.cons f fs) small =
       let s = chunkBytes o (c .additions) in
       let h = its pre s in
       let p : Pair = record { key = c .key; value = handleBytes h } in
@@ -89,12 +85,12 @@ module _ (o : Options) where
       let fits : Fits h = record { offset = omega arith; size = omega arith } in
       let regroup : (pre ++ framed s) ++ rest ≡ pre ++ (framed s ++ written o cs ++ post) = simp append-assoc in
       let next = at + length (entryBytes (sharing i n before (c .key)) p) in
-      let ih = reads-chunks (pre ++ framed s) post cs i (since i n) (c .key) next (f .1) (rw regroup small) in
+      let ih = reads-chunks (pre ++ framed s) post cs i (since i n) (c .key) next fs (rw regroup small) in
       let t = pre ++ (framed s ++ written o cs ++ post) in
       let es = planned (o .interval) (o .interval) [] 0 (map pairOf (c .additions)) in
       let read : entriesAt t h ≡ es = rw (append-assoc (framed s) (written o cs) post) (chunk-at pre rest (c .additions) (omega arith)) in
       let here : map additionOf (foundsOf t ix) ≡ c .additions =
-      ap (map additionOf) (founds-of t ix h es (handle-of h fits) read) ∙ founds-back ix (o .interval) (o .interval) [] 0 (c .additions) (f .0) in
+      ap (map additionOf) (founds-of t ix h es (handle-of h fits) read) ∙ founds-back ix (o .interval) (o .interval) [] 0 (c .additions) f in
       let more : map additionOf (readBlocks t (planned i (since i n) (c .key) next (indexPairs o (endOf o (length pre) c) cs))) ≡ allOf cs = rw (end-of pre c, ← regroup) ih in
       rw map-append (ap₂ _++_ here more)
 
@@ -126,26 +122,15 @@ module _ (o : Options) (cs : List Chunk) where
   until-long = simp (length-append, framed-length) (omega arith)
 
   module _ (small : length (table o cs) ≤ tableLimit) where
-    pub limit : length (table o cs) ≤ 2 ^ 24
-    limit = small
-
-    fits-meta : Fits (metaHandle o cs)
-    unfolding metaHandle
-    fits-meta = record { offset = omega (arith, table-long, until-long, limit); size = omega (arith, table-long, until-long, limit) }
-
-    fits-index : Fits (indexHandle o cs)
-    unfolding indexHandle
-    fits-index = record { offset = omega (arith, table-long, until-long, limit); size = omega (arith, table-long, until-long, limit) }
-
     pub table-footer : footer (table o cs) ≡ pass (record { metaindex = metaHandle o cs; index = indexHandle o cs })
     unfolding table metaHandle indexHandle
     table-footer =
-        footer-bytes (untilFooter o cs) (metaHandle o cs) (indexHandle o cs) fits-meta fits-index small
+        footer-bytes (untilFooter o cs) (metaHandle o cs) (indexHandle o cs) small
         (omega (arith, until-long)) (omega (arith, until-long))
 
     index-entries : entriesAt (table o cs) (indexHandle o cs) ≡ planned (indexInterval o) (indexInterval o) [] 0 (indexPairs o 0 cs)
     unfolding indexHandle indexBytes
-    index-entries = rw at-index (entries-at (indexInterval o) (untilIndex o cs) foot (indexPairs o 0 cs) (omega (arith, table-long, limit)))
+    index-entries = rw at-index (entries-at (indexInterval o) (untilIndex o cs) foot (indexPairs o 0 cs) (omega (arith, table-long)))
 
     pub table-plain : ChunksFit cs → map additionOf (plain (table o cs)) ≡ allOf cs
     unfolding plain
@@ -153,4 +138,4 @@ module _ (o : Options) (cs : List Chunk) where
         let rest = framed (filterBytes o cs) ++ (framed (metaBytes o cs) ++ (framed (indexBytes o cs) ++ foot)) in
         let i = indexInterval o in
         rw (plain, table-footer, index-entries, at-filter)
-        (reads-chunks o [] rest cs i i [] 0 fit (rw (← at-filter) (omega (arith, limit))))
+        (reads-chunks o [] rest cs i i [] 0 fit (rw (← at-filter) (omega arith)))

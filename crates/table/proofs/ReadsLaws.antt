@@ -3,14 +3,11 @@ use mathlib.Core.Path.{_≡_}
 use mathlib.Core.Bool.{true, false}
 use mathlib.Core.Option.{some}
 use lib.Dec.{eqb}
+use Rattle.codec.proofs.Prelude.{test}
 use Rattle.keys.specs.Order.{kindOf}
 use Rattle.table.specs.Table.{Found}
-use Rattle.table.specs.Reads.{found, deleted, byKind}
+use Rattle.table.specs.Reads.{Answer, found, deleted, byKind}
 
-pub kind-none : (x : Found) → eqb (kindOf (x .key)) 0 ≡ true → byKind (some x) ≡ deleted x
+pub by-kind : (P : Answer → Type 0) (x : Found) → (eqb (kindOf (x .key)) 0 ≡ true → P (deleted x)) → (eqb (kindOf (x .key)) 0 ≡ false → P (found x)) → P (byKind (some x))
 unfolding byKind
-kind-none x e = rw (e, byKind)
-
-pub kind-some : (x : Found) → eqb (kindOf (x .key)) 0 ≡ false → byKind (some x) ≡ found x
-unfolding byKind
-kind-some x e = rw (e, byKind)
+by-kind P x f g = test (eqb (kindOf (x .key)) 0) (λ e. rw (e, byKind) (f e)) (λ e. rw (e, byKind) (g e))

@@ -172,25 +172,9 @@ module _ (t : List ℕ) (f : Option (List ℕ)) (g : Found → Bool) (k : Point)
           r .1,
         )
 
--- ---- seek
-
 pub not-lower : (k : Point) (x : Found) → pointOf (x .key) ≺ k → T (not (notBelow k x))
 unfolding notBelow
 not-lower k x h = rw (is-true (isLess (byPoint (pointOf (x .key)) k)) (h .is)) tt
-
-module _ (t : List ℕ) (f : Option (List ℕ)) (k : Point) where
-  -- no index entry reaches the key: nor does any entry
-  pub seek-none : {ixs : List Entry} → Laid t f ixs → All (λ (i : Entry). pointOf (i .key) ≺ k) ixs → first (notBelow k) (readBlocks t ixs) ≡ none
-  seek-none l h = skip-all t f (notBelow k) k (not-lower k) l h
-
-  -- the first that does: the entry is in its block, or it is the first of the next
-  pub seek-two : (bs : List Entry) (ix : Entry) (cs : List Entry) → Laid t f (bs ++ (ix ∷ cs)) → All (λ (i : Entry). pointOf (i .key) ≺ k) bs → k ≼ pointOf (ix .key)
-      → first (notBelow k) (readBlocks t (bs ++ (ix ∷ cs))) ≡ orElse (first (notBelow k) (foundsOf t ix)) (head? (readBlocks t cs))
-  unfolding notBelow
-  seek-two bs ix cs l h r =
-      let s = skip t f (notBelow k) k (not-lower k) bs ix cs l h in
-      s .0 ∙ ap (orElse (first (notBelow k) (foundsOf t ix)))
-      (first-all (notBelow k) (all-imp (λ x u. ≺-weak (≼-≺ r u) .is) (s .1 .beyond)))
 
 -- ---- lookup
 
@@ -258,63 +242,58 @@ pub lookup-by-seek : (t : List ℕ) (k : Point) → Passed t → lookupOf t k �
 unfolding lookupOf seekOf
 lookup-by-seek t k p = for-by-reach k (plain t) (plain-rises t p)
 
-module _ (t : List ℕ) (f : Option (List ℕ)) (k : Point) where
-  pub lookup-none : {ixs : List Entry} → Laid t f ixs → All (λ (i : Entry). pointOf (i .key) ≺ k) ixs → first (isFor k) (readBlocks t ixs) ≡ none
-  lookup-none l h = skip-all t f (isFor k) k (lower-not-for k) l h
-
-  pub lookup-two : (bs : List Entry) (ix : Entry) (cs : List Entry) → Laid t f (bs ++ (ix ∷ cs)) → All (λ (i : Entry). pointOf (i .key) ≺ k) bs → k ≼ pointOf (ix .key)
-      → first (isFor k) (readBlocks t (bs ++ (ix ∷ cs))) ≡ first (isFor k) (foundsOf t ix)
-  lookup-two bs ix cs l h r =
-      let s = skip t f (isFor k) k (lower-not-for k) bs ix cs l h in
-      s .0 ∙ ⊎-elim (λ a. in-this-block (s .1) a) (λ a. or-none _ _ (first-none (isFor k) (all-imp (λ x u. not-for k x (λ v. clash u v)) a))) (s .1 .apart)
-    where
-      clash : {x : Found} → Less byBytes (userOf (ix .key)) (userOf (x .key)) → For k x → ⊥
-      clash u v = less-not-upTo u (rw (v .word) (≼-word r))
-
-      in-this-block : Settled t f ix cs → (z : Found) × List·Memᴰ z (foundsOf t ix) × (pointOf (ix .key) ≼ pointOf (z .key))
-          → orElse (first (isFor k) (foundsOf t ix)) (first (isFor k) (readBlocks t cs)) ≡ first (isFor k) (foundsOf t ix)
-      in-this-block s a =
-          let z : Found = a .0 in
-          let at-least : k ≼ pointOf (z .key) = ≼-trans r (a .2) in
-          ⊎-elim (λ y. or-some _ _ (first-some (isFor k) (a .1) y .1))
-          (λ n. or-none _ _ (first-none (isFor k) (all-imp (λ x u. not-for k x (λ v. T-not (isFor k z) n (for-is k z .1 (earlier-for k at-least (≺-weak (≼-≺ (all-mem (s .within) (a .1)) u)) v)))) (s .beyond))))
-          (decide (isFor k z))
-
-  -- and where the filter denies the block the word, there is none
-  pub lookup-denied : (bs : List Entry) (ix : Entry) (cs : List Entry) → Laid t f (bs ++ (ix ∷ cs)) → All (λ (i : Entry). pointOf (i .key) ≺ k) bs → k ≼ pointOf (ix .key)
-      → T (not (mayHold f (handleOf (ix .value) .offset) (k .word))) → first (isFor k) (readBlocks t (bs ++ (ix ∷ cs))) ≡ none
-  lookup-denied bs ix cs l h r d =
-      lookup-two bs ix cs l h r
-      ∙ first-none (isFor k) (all-imp (λ x u. not-for k x (λ v. T-not (mayHold f (handleOf (ix .value) .offset) (k .word)) d (rw (v .word) at u))) (skip t f (isFor k) k (lower-not-for k) bs ix cs l h .1 .may))
-
 -- ---- of a passed table: a point, and the first index entry that reaches it
 
 module _ (t : List ℕ) (k : Point) (o : Opened) (passed : Passed t) (open-as : opened t ≡ pass o) where
   table-laid : Laid t (o .filter) (o .index)
   table-laid = laid (stands t o passed open-as)
 
+  -- no index entry reaches it: nor does any entry
   pub seek-beyond : All (λ (i : Entry). pointOf (i .key) ≺ k) (o .index) → seekOf t k ≡ none
   unfolding seekOf
-  seek-beyond h = rw (open-reading t o open-as) (seek-none t (o .filter) k table-laid h)
-
-  pub seek-law : (s : Split k (o .index)) → seekOf t k ≡ orElse (first (notBelow k) (foundsOf t (s .here))) (head? (readBlocks t (s .after)))
-  unfolding seekOf
-  seek-law s =
-      rw (open-reading t o open-as, s .whole)
-      (seek-two t (o .filter) k (s .before) (s .here) (s .after) (rw (s .whole) at table-laid) (s .lower) (s .reaches))
+  seek-beyond h = rw (open-reading t o open-as) (skip-all t (o .filter) (notBelow k) k (not-lower k) table-laid h)
 
   pub lookup-beyond : All (λ (i : Entry). pointOf (i .key) ≺ k) (o .index) → lookupOf t k ≡ none
-  unfolding lookupOf
-  lookup-beyond h = rw (open-reading t o open-as) (lookup-none t (o .filter) k table-laid h)
+  lookup-beyond h = lookup-by-seek t k passed ∙ ap (onlyWord k) (seek-beyond h)
 
-  pub lookup-law : (s : Split k (o .index)) → lookupOf t k ≡ first (isFor k) (foundsOf t (s .here))
-  unfolding lookupOf
-  lookup-law s =
-      rw (open-reading t o open-as, s .whole)
-      (lookup-two t (o .filter) k (s .before) (s .here) (s .after) (rw (s .whole) at table-laid) (s .lower) (s .reaches))
+  module _ (s : Split k (o .index)) where
+    abbrev ix : Entry
+    ix = s .here
 
-  pub filter-law : (s : Split k (o .index)) → T (not (mayHold (o .filter) (handleOf (s .here .value) .offset) (k .word))) → lookupOf t k ≡ none
-  unfolding lookupOf
-  filter-law s d =
-      rw (open-reading t o open-as, s .whole)
-      (lookup-denied t (o .filter) k (s .before) (s .here) (s .after) (rw (s .whole) at table-laid) (s .lower) (s .reaches) d)
+    -- where a test passes of no entry below the point, the first that passes is in its block, or after it
+    here-or-after : (g : Found → Bool) → ((x : Found) → pointOf (x .key) ≺ k → T (not (g x)))
+        → (first g (plain t) ≡ orElse (first g (foundsOf t ix)) (first g (readBlocks t (s .after)))) × Settled t (o .filter) ix (s .after)
+    here-or-after g lower =
+        let r = skip t (o .filter) g k lower (s .before) ix (s .after) (rw (s .whole) at table-laid) (s .lower) in
+        (ap (first g) (open-reading t o open-as ∙ ap (readBlocks t) (s .whole)) ∙ r .0, r .1)
+
+    -- the entry is in the block, or it is the first of the next
+    pub seek-law : seekOf t k ≡ orElse (first (notBelow k) (foundsOf t ix)) (head? (readBlocks t (s .after)))
+    unfolding seekOf notBelow
+    seek-law =
+        let r = here-or-after (notBelow k) (not-lower k) in
+        r .0 ∙ ap (orElse (first (notBelow k) (foundsOf t ix))) (first-all (notBelow k) (all-imp (λ x u. ≺-weak (≼-≺ (s .reaches) u) .is) (r .1 .beyond)))
+
+    pub lookup-law : lookupOf t k ≡ first (isFor k) (foundsOf t ix)
+    unfolding lookupOf
+    lookup-law =
+        let r = here-or-after (isFor k) (lower-not-for k) in
+        r .0 ∙ ⊎-elim (λ a. in-this-block (r .1) a) (λ a. or-none _ _ (first-none (isFor k) (all-imp (λ x u. not-for k x (λ v. clash u v)) a))) (r .1 .apart)
+      where
+        clash : {x : Found} → Less byBytes (userOf (ix .key)) (userOf (x .key)) → For k x → ⊥
+        clash u v = less-not-upTo u (rw (v .word) (≼-word (s .reaches)))
+
+        in-this-block : Settled t (o .filter) ix (s .after) → (z : Found) × List·Memᴰ z (foundsOf t ix) × (pointOf (ix .key) ≼ pointOf (z .key))
+            → orElse (first (isFor k) (foundsOf t ix)) (first (isFor k) (readBlocks t (s .after))) ≡ first (isFor k) (foundsOf t ix)
+        in-this-block r a =
+            let z : Found = a .0 in
+            let at-least : k ≼ pointOf (z .key) = ≼-trans (s .reaches) (a .2) in
+            ⊎-elim (λ y. or-some _ _ (first-some (isFor k) (a .1) y .1))
+            (λ n. or-none _ _ (first-none (isFor k) (all-imp (λ x u. not-for k x (λ v. T-not (isFor k z) n (for-is k z .1 (earlier-for k at-least (≺-weak (≼-≺ (all-mem (r .within) (a .1)) u)) v)))) (r .beyond))))
+            (decide (isFor k z))
+
+    -- and where the filter denies the block the word, there is none
+    pub filter-law : T (not (mayHold (o .filter) (handleOf (ix .value) .offset) (k .word))) → lookupOf t k ≡ none
+    filter-law d =
+        lookup-law
+        ∙ first-none (isFor k) (all-imp (λ x u. not-for k x (λ v. T-not (mayHold (o .filter) (handleOf (ix .value) .offset) (k .word)) d (rw (v .word) at u))) (here-or-after (isFor k) (lower-not-for k) .1 .may))

@@ -6,18 +6,18 @@ use mathlib.Core.Bool.{true}
 use mathlib.Core.Option.{Option, none, some}
 use native.Mathlib.Nat.{le-refl}
 use native.Mathlib.Omega.{arith}
-use lib.Dec.{leb, eqb}
+use lib.Dec.{leb}
 use lib.ListN.{length, length-append, length-map}
 use borrow.Author.Tests.{leb-true}
 use Rattle.codec.specs.Bytes.{common}
-use Rattle.codec.proofs.Prelude.{test, both, is-true}
+use Rattle.codec.proofs.Prelude.{both, is-true}
 use Rattle.keys.specs.Order.{below}
 use Rattle.keys.proofs.StartLaws.{above-fresh}
 use Rattle.blocks.specs.Block.{Pair, packed}
 use Rattle.blocks.specs.Count.{BlockCount, countOf, noEntries, countEntry, countSize}
 use Rattle.codec.specs.Limits.{within}
 use Rattle.blocks.specs.Formed.{dataBlock, entryFits, all, rises}
-use Rattle.blocks.proofs.CountLaws.{count-none, count-zero, Fresh, packed-fours}
+use Rattle.blocks.proofs.CountLaws.{count-none, entry-restarts, count-zero, Fresh, packed-fours}
 use Rattle.filters.specs.Filter.{hash}
 use Rattle.filters.specs.FilterBlock.{Filters, noFilters, wait, filtersUpTo, lastFilter}
 use Rattle.filters.specs.FilterCount.{filterCountOf, countLast, filterBlockSize}
@@ -35,7 +35,7 @@ use Rattle.table.proofs.FrameLaws.{framed-length}
 use Rattle.table.proofs.StepLaws.{last-none, last-some, empty-most, empty-size}
 use Rattle.table.proofs.PlainLaws.{allOf}
 use Rattle.table.proofs.CheckLaws.{edge, Good}
-use Rattle.table.proofs.AcceptLaws.{Inv, inv-begin, within-parts, accepted, begin-is, size-fits}
+use Rattle.table.proofs.AcceptLaws.{Inv, inv-begin, within-parts, option-parts, accepted, begin-is}
 use Rattle.table.proofs.CountsLaws.{chunk-size, counts-close, counts-last, size-finished, no-open, last-filters}
 
 -- ---- each entry takes 4 bytes at least
@@ -109,17 +109,13 @@ module _ (o : Options) where
     indexRestarts : c .index .restarts ≤ d .index .restarts
     filters : Kept (c .filters) (d .filters)
 
-  restarts-kept : (i : ℕ) (c : BlockCount) (key : List ℕ) (n : ℕ) → c .restarts ≤ countEntry i c key n .restarts
-  unfolding countEntry
-  restarts-kept i c key n = test (eqb (c .since) i) (λ t. rw (t, countEntry) (omega arith)) (λ t. rw (t, countEntry) (omega arith))
-
   close-keeps : (key : List ℕ) (c : Counts) → Keeps c (countClose o key c)
   unfolding countClose countSize
   close-keeps key c =
       record {
         block = omega arith;
         index = unfold countEntry in omega arith;
-        indexRestarts = restarts-kept (indexInterval o) (c .index) key _;
+        indexRestarts = entry-restarts (indexInterval o) (c .index) key _ .0;
         filters = upTo-kept (o .filtering) _ (c .filters);
       }
 
@@ -174,7 +170,7 @@ module _ (o : Options) where
 
 pub runs-suffice : runsSuffice
 runs-suffice o room more b fits least accepts =
-    let start = accepted o room room (size-fits o (is-true (optionsFit o) fits)) (le-refl room) begin [] more b inv-begin (rw (begin-is, empty-size) least) accepts in
+    let start = accepted o room room (option-parts o (is-true (optionsFit o) fits) .size) (le-refl room) begin [] more b inv-begin (rw (begin-is, empty-size) least) accepts in
     (between-fits o room b more (start .0) (start .1), finished-fits o room b more (start .0) (start .1))
 
 -- ---- what start asked for
