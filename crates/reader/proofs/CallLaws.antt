@@ -29,8 +29,8 @@ use Rattle.reader.specs.declared.table_reader.Found as FoundEnum
 use Rattle.reader.specs.declared.table_reader.Sought.{Sought}
 use Rattle.reader.specs.declared.table_reader.Sought.the-variants as SoughtCase
 use Rattle.reader.specs.Answers.{entryOf, soughtOf, lookedOf, Seeks, Looks, Steps}
-use Rattle.reader.specs.Parts.{Indexed, Named, Holds, Tells, IsLater, orThen, OrLater, Is, Kinded, IsKinded}
-use Rattle.reader.proofs.AnswerLaws.{shows, by-entry}
+use Rattle.reader.specs.Parts.{Indexed, Named, Holds, Tells, Short, IsLater, orThen, OrLater, Is, Kinded, IsKinded}
+use Rattle.reader.proofs.AnswerLaws.{shows, by-entry, entry-short}
 
 -- ---- an answer, or what comes later
 
@@ -53,12 +53,12 @@ module _ (t : List ℕ) (offset size start : ℕ) {r : Sought} where
 -- ---- the key handed over
 
 module _ {r : Sought} (k b : List ℕ) where
-  pub hand-entry : {e : Entry} → r ≡ SoughtCase.Entry e → e .«key_len» ≤ length k → {k′ : List ℕ} → k′ ≡ put k 0 (take (e .«key_len») b) → (a : Answer) → r ≡ soughtOf a → Holds a b → k′ ≡ bufferAfter a k
+  pub hand-entry : {e : Entry} → r ≡ SoughtCase.Entry e → Short r → 1032 ≤ length k → {k′ : List ℕ} → k′ ≡ put k 0 (take (e .«key_len») b) → (a : Answer) → r ≡ soughtOf a → Holds a b → k′ ≡ bufferAfter a k
   unfolding entryOf bufferAfter
-  hand-entry {e} is l {k′} w a shown holds = by-entry (λ (a : Answer). k′ ≡ bufferAfter a k) b a shown is holds go go
+  hand-entry {e} is short l {k′} w a shown holds = by-entry (λ (a : Answer). k′ ≡ bufferAfter a k) b a shown is holds go go
     where
       go : (x : Found) → entryOf x ≡ e → take (e .«key_len») b ≡ x .key → k′ ≡ overlay (x .key) k
-      go x s key = let n : length (x .key) ≡ e .«key_len» = ap (λ (y : Entry). y .«key_len») s in w ∙ ap (put k 0) key ∙ overlay-put [] (x .key) k k 0 refl (overlay-none k) (omega arith)
+      go x s key = let n : length (x .key) ≡ e .«key_len» = ap (λ (y : Entry). y .«key_len») s in w ∙ ap (put k 0) key ∙ overlay-put [] (x .key) k k 0 refl (overlay-none k) (omega (arith, entry-short is short))
 
   pub hand-none : r ≡ SoughtCase.None → (a : Answer) → r ≡ soughtOf a → Holds a b → k ≡ bufferAfter a k
   unfolding bufferAfter
@@ -93,11 +93,11 @@ step-two t i at k l = record { answer = refused 2; shown = refl; is = record { t
 
 -- ---- the footer
 
-pub footer-named : (t : List ℕ) {a b c d : ℕ} → footerAnswer (footer t) ≡ FooterCase.Footer a b c d → Named t a b
-footer-named t {a} {b} {c} {d} e = record { foot = record { metaindex = record { offset = a; size = b }; index = record { offset = c; size = d } }; reads = footer-said (footer t) e; metaindex = refl }
-
-pub footer-indexed : (t : List ℕ) {a b c d : ℕ} → footerAnswer (footer t) ≡ FooterCase.Footer a b c d → Indexed t c d
-footer-indexed t {a} {b} {c} {d} e = record { foot = record { metaindex = record { offset = a; size = b }; index = record { offset = c; size = d } }; reads = footer-said (footer t) e; index = refl }
+-- what it says of the metaindex and of the index
+pub footer-read : (t : List ℕ) {a b c d : ℕ} → footerAnswer (footer t) ≡ FooterCase.Footer a b c d → Named t a b × Indexed t c d
+footer-read t {a} {b} {c} {d} e =
+    let f : Footer = record { metaindex = record { offset = a; size = b }; index = record { offset = c; size = d } } in
+    (record { foot = f; reads = footer-said (footer t) e; metaindex = refl }, record { foot = f; reads = footer-said (footer t) e; index = refl })
 
 -- a refusal of the footer is 7 or 8
 abbrev Fair : List ℕ → Checked Footer → Type 0

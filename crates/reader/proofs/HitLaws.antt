@@ -12,7 +12,7 @@ use borrow.Author.Tests.{le-leb}
 use Rattle.codec.specs.Bytes.{part}
 use Rattle.codec.specs.Maybe.{first}
 use Rattle.codec.specs.Varint.{Handle}
-use Rattle.codec.proofs.BytesLaws.{part-length, part-part, part-most}
+use Rattle.codec.proofs.BytesLaws.{part-length, part-most}
 use Rattle.codec.proofs.Lists.{All, Pairs, all-mem, first-yes, first-no}
 use Rattle.codec.proofs.MaybeLaws.{getting, giving}
 use Rattle.codec.proofs.Prelude.{test, and-i, true-is, false-is}
@@ -28,6 +28,7 @@ use Rattle.block_reader.specs.Said.{pick, placeIn, foundAnswer, keyLeft, buffer
 use Rattle.blocks.proofs.ReadLaws.{StartsBefore, block-starts, ValueIn, block-values}
 use Rattle.table.specs.Table.{endsBefore, contents}
 use Rattle.table.specs.Reads.{Answer, refused, nothing, found, listed}
+use Rattle.table.proofs.PlaceLaws.{value-stands}
 use Rattle.table.proofs.StandLaws.{all-entries}
 use Rattle.reader.specs.declared.table_reader.Sought.{Sought}
 use Rattle.reader.specs.Answers.{entryOf, soughtOf}
@@ -142,11 +143,6 @@ readable-tells s p =
 pub room : (k : List ℕ) (x : Entry) → length k ≡ 1032 → T (leb (length (x .key)) 1032) → leb (length (x .key)) (length k) ≡ true
 room k x long t = le-leb (length (x .key)) (length k) (omega (arith, leb→le (length (x .key)) 1032 t))
 
--- the value of an entry, as it stands in the table
-value-is : (t : List ℕ) (h : Handle) (x : Entry) → ValueIn (contents t h) x → part t (h .offset + x .valueAt) (length (x .value)) ≡ x .value
-unfolding contents
-value-is t h x v = sym (v .is ∙ part-part t (h .offset) (h .size) (x .valueAt) (length (x .value)) (omega (arith, v .ends, part-most t (h .offset) (h .size))))
-
 module _ (t : List ℕ) (h : Handle) (index : ℕ) where
   hit-is : {says : List Entry → Option (Option Entry)} {ordered : List Entry → Bool} {k : List ℕ} {f : Found} {k′ : List ℕ} → Picks says
       → Said (contents t h) says ordered k f k′ → length k ≡ 1032 → (es : List Entry) → readable (contents t h) ≡ some es → ordered es ≡ true
@@ -161,16 +157,18 @@ module _ (t : List ℕ) (h : Handle) (index : ℕ) where
       go (some (some x)) e =
           let r = readable-tells (contents t h) read in
           let m = picks es x e in
-          rw (room k x long (all-mem (r .short) m), foundAnswer, put-start k (x .key) (length (x .key)) refl (omega (arith, long, leb→le (length (x .key)) 1032 (all-mem (r .short) m))), value-is t h x (all-mem (r .values) m)) refl
+          rw (room k x long (all-mem (r .short) m), foundAnswer, put-start k (x .key) (length (x .key)) refl (omega (arith, long, leb→le (length (x .key)) 1032 (all-mem (r .short) m))), ← value-stands t h x (all-mem (r .values) m)) refl
 
-  -- what was found in the block, of a kind of search on it
-  pub hit-says : {says : List Entry → Option (Option Entry)} {ordered : List Entry → Bool} {s k : List ℕ} {f : Found} {k′ : List ℕ} → Picks says → Asks ordered → endsBefore (length t) (h .offset) (h .size) ≡ true
-      → s ≡ contents t h → Said s says ordered k f k′ → length k ≡ 1032 → length k′ ≡ 1032 → {r : Sought} → r ≡ hitOf index (h .offset) f → Tells soughtOf t (Says t index (h .offset) (h .size) says) r k′
-  unfolding contents
-  hit-says picks asks placed s-is said long long′ is =
-      let s = rw s-is at said in
-      let w = hit-tells t h index placed s long′ in
-      record { answer = w .answer; shown = is ∙ w .shown; holds = w .holds; inside = w .inside; is = λ es read order. w .is ∙ hit-is picks s long es read (asks es order) }
+-- what was found in the block, of a kind of search on it
+pub hit-says : (t : List ℕ) (index offset size : ℕ) {says : List Entry → Option (Option Entry)} {ordered : List Entry → Bool} {s k : List ℕ} {f : Found} {k′ : List ℕ} → Picks says → Asks ordered
+    → endsBefore (length t) offset size ≡ true → s ≡ part t offset size → Said s says ordered k f k′ → length k ≡ 1032 → length k′ ≡ 1032 → {r : Sought} → r ≡ hitOf index offset f
+    → Tells soughtOf t (Says t index offset size says) r k′
+unfolding contents
+hit-says t index offset size picks asks placed s-is said long long′ is =
+    let h : Handle = record { offset = offset; size = size } in
+    let s = rw s-is at said in
+    let w = hit-tells t h index placed s long′ in
+    record { answer = w .answer; shown = is ∙ w .shown; holds = w .holds; inside = w .inside; is = λ es read order. w .is ∙ hit-is t h index picks s long es read (asks es order) }
 
 -- ---- what the parts of a read ask for
 
@@ -181,15 +179,9 @@ module _ {s : List ℕ} {says : List Entry → Option (Option Entry)} {ordered :
   said-inside FoundCase.NoPlace w = tt
   said-inside FoundCase.Bad w = tt
 
-  pub said-adds : (t : List ℕ) (h : Handle) (f : Found) → Said s says ordered k f k′ → s ≡ contents t h → endsBefore (length t) (h .offset) (h .size) ≡ true → length t < 2 ^ 64 → Adds (h .offset) f
-  unfolding contents
-  said-adds t h (FoundCase.Entry start n at v) w e placed big =
-      omega (arith, w .inside .0, placed-within (length t) (h .offset) (h .size) placed, ap length e, part-most t (h .offset) (h .size))
-  said-adds t h FoundCase.None w e placed big = tt
-  said-adds t h FoundCase.NoPlace w e placed big = tt
-  said-adds t h FoundCase.Bad w e placed big = tt
-
--- a block as code hands it on
-pub contents-is : (t : List ℕ) (offset size : ℕ) {s : List ℕ} → s ≡ part t offset size → s ≡ contents t (record { offset = offset; size = size })
-unfolding contents
-contents-is t offset size e = e
+  pub said-adds : (t : List ℕ) (offset size : ℕ) (f : Found) → Said s says ordered k f k′ → s ≡ part t offset size → endsBefore (length t) offset size ≡ true → length t < 2 ^ 64 → Adds offset f
+  said-adds t offset size (FoundCase.Entry start n at v) w e placed big =
+      omega (arith, w .inside .0, placed-within (length t) offset size placed, ap length e, part-most t offset size)
+  said-adds t offset size FoundCase.None w e placed big = tt
+  said-adds t offset size FoundCase.NoPlace w e placed big = tt
+  said-adds t offset size FoundCase.Bad w e placed big = tt

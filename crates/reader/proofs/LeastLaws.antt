@@ -4,23 +4,23 @@ use mathlib.Core.Path.{_≡_, refl, ap}
 use mathlib.Core.List.{List, [], _∷_, _++_}
 use mathlib.Core.Bool.{false}
 use mathlib.Core.Logic.{_⊎_, inl, inr}
-use mathlib.Core.Option.{Option, none, some}
 use native.Mathlib.Omega.{arith}
 use lib.Dec.{T, leb, leb→le}
 use lib.ListN.{length, take, drop, length-take, length-drop}
 use Rattle.codec.specs.Bytes.{numberOf, part}
 use Rattle.codec.specs.Varint.{Handle}
 use Rattle.codec.proofs.BytesLaws.{part-below, number-below}
-use Rattle.codec.proofs.Lists.{All, Below, below-all, below-take, below-drop, all-append, all-map}
+use Rattle.codec.proofs.Lists.{All, Below, below-all, below-take, below-drop, all-map}
 use Rattle.codec.proofs.Prelude.{split, is-true, and-l}
 use Rattle.keys.specs.Order.{andThen, isLess, byBytes, userOf, tagOf, seqOf, pointOf, byPoint}
 use Rattle.keys.proofs.OrderLaws.{compare-is, compare-gt}
-use Rattle.blocks.specs.Block.{Entry, Block, block}
+use Rattle.blocks.specs.Block.{Entry}
 use Rattle.codec.specs.Limits.{within}
 use Rattle.blocks.specs.Formed.{dataBlock, entryFits}
 use Rattle.blocks.proofs.ReadLaws.{entry-read, Reads, block-read}
-use Rattle.table.specs.Table.{Found, contents, handleOf, entriesAt, foundIn, foundsOf, readBlocks}
+use Rattle.table.specs.Table.{Found, contents, handleOf, entriesAt, foundIn, foundsOf}
 use Rattle.table.specs.Promise.{notBelow}
+use Rattle.table.proofs.PlaceLaws.{entries-of, all-blocks}
 use Rattle.table.proofs.StandLaws.{all-entries, open-reading}
 use Rattle.reader.specs.Walk.{onward, leastPoint, wholeWalk}
 use Rattle.reader.proofs.PassedLaws.{BlockReads, passed-indexed, passed-opens}
@@ -41,12 +41,10 @@ keys-below {s} {at} {before} b c (Reads.more {e = e} n read r) =
     All.cons key (keys-below b key r)
 
 entries-below : (t : List ℕ) (h : Handle) → Below 256 t → All (λ (e : Entry). Below 256 (e .key)) (entriesAt t h)
-unfolding entriesAt contents
-entries-below t h b = go (block (contents t h)) refl
-  where
-    go : (o : Option Block) → block (contents t h) ≡ o → All (λ (e : Entry). Below 256 (e .key)) (entriesAt t h)
-    go none e = rw (e, entriesAt) All.nil
-    go (some x) e = let r = block-read (contents t h) e in rw (e, entriesAt) (keys-below (below-take 256 (r .end) (contents t h) (part-below 256 t (h .offset) (h .size) b)) tt (r .reads))
+unfolding contents
+entries-below t h b =
+    entries-of (All (λ (e : Entry). Below 256 (e .key))) t h All.nil
+    (λ x e. let r = block-read (contents t h) e in keys-below (below-take 256 (r .end) (contents t h) (part-below 256 t (h .offset) (h .size) b)) tt (r .reads))
 
 -- ---- against the least point
 
@@ -103,11 +101,6 @@ module _ (t : List ℕ) (b : Below 256 t) where
       both All.nil All.nil = All.nil
       both (All.cons {x = e} f fs) (All.cons c cs) = All.cons (entry-up ix e f c) (both fs cs)
 
-  blocks-up : {ixs : List Entry} → All (BlockReads t) ixs → All Up (readBlocks t ixs)
-  unfolding readBlocks
-  blocks-up All.nil = All.nil
-  blocks-up (All.cons {x = ix} r rs) = all-append (block-up ix r) (blocks-up rs)
-
 onward-all : {xs : List Found} → All Up xs → onward leastPoint xs ≡ xs
 unfolding onward
 onward-all All.nil = refl
@@ -117,4 +110,4 @@ pub whole-walk : wholeWalk
 whole-walk t bytes p =
     let i = passed-indexed t p in
     let o = passed-opens t (i .1) p in
-    rw (open-reading t (o .table) (o .opens)) (onward-all (blocks-up t (below-all 256 t bytes) (o .blocks)))
+    rw (open-reading t (o .table) (o .opens)) (onward-all (all-blocks t (block-up t (below-all 256 t bytes)) (o .blocks)))

@@ -36,13 +36,9 @@ module _ (len start : ℕ) (s : List ℕ) where
   not-located e = rw (one-said (oneHandle s) e)
 
   module _ {a b : ℕ} (e : oneHandleAnswer (oneHandle s) ≡ OneCase.Handle a b) where
-    pub handle-in : endsBefore len a b ≡ true → LocatedCase.Block start a b ≡ byHandle len start (oneHandle s)
+    pub located : {m : Bool} → endsBefore len a b ≡ m → elim m [ true ↦ LocatedCase.Block start a b | false ↦ LocatedCase.Refused 8 ] ≡ byHandle len start (oneHandle s)
     unfolding byHandle
-    handle-in p = rw (one-said (oneHandle s) e, byHandle, p)
-
-    pub handle-out : endsBefore len a b ≡ false → LocatedCase.Refused 8 ≡ byHandle len start (oneHandle s)
-    unfolding byHandle
-    handle-out p = rw (one-said (oneHandle s) e, byHandle, p)
+    located p = rw (one-said (oneHandle s) e, byHandle, p)
 
 -- ---- what it can come to
 
@@ -99,7 +95,8 @@ module _ (t : List ℕ) {h : Handle} (o : Opens t h) where
 -- ---- a reading of the index
 
 pub index-sees : (t : List ℕ) {offset size : ℕ} → Indexed t offset size → {says : List Entry → Option (Option Entry)} {ordered : List Entry → Bool} {s k : List ℕ} {f : Found} {k′ : List ℕ} {r : Located}
-    → Picks says → Asks ordered → s ≡ contents t (record { offset = offset; size = size }) → Said s says ordered k f k′ → length k ≡ 1032 → r ≡ locatedOf (length t) s f → Sees t offset size says r
+    → Picks says → Asks ordered → s ≡ part t offset size → Said s says ordered k f k′ → length k ≡ 1032 → r ≡ locatedOf (length t) s f → Sees t offset size says r
+unfolding contents
 index-sees t i {says} {ordered} {s} {k} {f} picks asks e said long is =
     record {
       passed = λ p.

@@ -6,7 +6,7 @@ use mathlib.Core.Bool.{Bool, true, false, not, false≢true}
 use mathlib.Core.Option.{Option, none, some, Option·map}
 use lib.Dec.{T, eqb}
 use lib.ListN.{length, take}
-use Rattle.codec.specs.Bytes.{sameBytes}
+use Rattle.codec.specs.Bytes.{part, sameBytes}
 use Rattle.codec.specs.Maybe.{first}
 use Rattle.codec.specs.Varint.{Handle}
 use Rattle.codec.proofs.Prelude.{test, is-true, apart}
@@ -27,6 +27,7 @@ use Rattle.table.specs.Table.{Footer, endsBefore, placed, sealed, contents, sor
 use Rattle.table.specs.Promise.{Passed, lookupOf}
 use Rattle.table.specs.Reads.{Answer, refused, nothing, found, deleted, byKind, lookupSays, listed}
 use Rattle.table.proofs.CheckedLaws.{passing, asking, pass-same, orRefuse-pass}
+use Rattle.table.proofs.ReadsLaws.{by-kind}
 use Rattle.table.proofs.SearchLaws.{onlyWord, for-by-reach, lookup-beyond, lookup-law, filter-law}
 use Rattle.table.proofs.StandLaws.{Laid, Settled}
 use Rattle.reader.specs.declared.table_reader.Entry as EntryStruct
@@ -97,8 +98,9 @@ filter-some t (some h) {f} {a} {b} e a-is =
     let r : Filtered t (record { offset = h .offset; size = h .size }) f = record { inside = there; is = sym (pass-same p) } in
     rw (x, y) at r
 
-module _ (t : List ℕ) {at size : ℕ} (n : Named t at size) (offset : ℕ) (word : List ℕ) {s : List ℕ} {r : FilterRead} (s-is : s ≡ contents t (record { offset = at; size = size })) (b : BloomRead s r) where
+module _ (t : List ℕ) {at size : ℕ} (n : Named t at size) (offset : ℕ) (word : List ℕ) {s : List ℕ} {r : FilterRead} (s-is : s ≡ part t at size) (b : BloomRead s r) where
   answered : {o : Opened} (op : opened t ≡ pass o) → r ≡ bloomAnswer (bloomHandle (pairsOf (meta t n op .entries)))
+  unfolding contents
   answered op = b .answer (meta t n op .entries) (rw s-is (meta t n op .reads))
 
   pub held-none : r ≡ FilterCase.None → HeldIs t offset word HeldCase.May
@@ -120,23 +122,23 @@ module _ (t : List ℕ) {at size : ℕ} (n : Named t at size) (offset : ℕ) (wo
     unfolding listed
     held-far f = record { passed = λ p o op. absurd (false≢true (sym f ∙ there op .inside)); fair = tt }
 
-    held-as : (m : Bool) {d : List ℕ} {x : ℕ} → d ≡ contents t h → x ≡ hash word → m ≡ mayMatch d offset x → {o : Opened} → opened t ≡ pass o → heldOf m ≡ heldOf (mayHold (o .filter) offset word)
-    unfolding mayHold
-    held-as m {d} d-is x-is f op = ap heldOf (f ∙ ap (mayMatch d offset) x-is ∙ ap (λ (d : List ℕ). mayMatch d offset (hash word)) d-is ∙ sym (ap (λ (g : Option (List ℕ)). mayHold g offset word) (there op .is)))
-
-    pub held-may : {d : List ℕ} {x : ℕ} → d ≡ contents t h → x ≡ hash word → true ≡ mayMatch d offset x → HeldIs t offset word HeldCase.May
-    unfolding heldOf
-    held-may d-is x-is f = record { passed = λ p o op. held-as true d-is x-is f op; fair = tt }
-
-    pub held-not : {d : List ℕ} {x : ℕ} → d ≡ contents t h → x ≡ hash word → false ≡ mayMatch d offset x → HeldIs t offset word HeldCase.Not
-    unfolding heldOf
-    held-not d-is x-is f = record { passed = λ p o op. held-as false d-is x-is f op; fair = tt }
+    pub held-is : (m : Bool) {d : List ℕ} {x : ℕ} → d ≡ part t from len → x ≡ hash word → m ≡ mayMatch d offset x → HeldIs t offset word (heldOf m)
+    unfolding heldOf mayHold contents
+    held-is m {d} d-is x-is f =
+        record {
+          passed = λ p o op. ap heldOf (f ∙ ap (mayMatch d offset) x-is ∙ ap (λ (d : List ℕ). mayMatch d offset (hash word)) d-is ∙ sym (ap (λ (g : Option (List ℕ)). mayHold g offset word) (there op .is)));
+          fair = fair m;
+        }
+      where
+        fair : (m : Bool) → Fair t (heldOf m)
+        fair true = tt
+        fair false = tt
 
 -- ---- the word and the kind
 
 kind-shown : (x : Table.Found) → soughtOf (byKind (some x)) ≡ SoughtCase.Entry (entryOf x)
-unfolding byKind soughtOf
-kind-shown x = test (eqb (kindOf (x .key)) 0) (λ t. rw (t, byKind)) (λ t. rw (t, byKind))
+unfolding soughtOf
+kind-shown x = by-kind (λ (a : Answer). soughtOf a ≡ SoughtCase.Entry (entryOf x)) x (λ e. refl) (λ e. refl)
 
 module _ {r : Sought} (w : List ℕ) (a : Answer) (shown : r ≡ soughtOf a) where
   pub word-refused : {n : ℕ} → r ≡ SoughtCase.Refused n → SoughtCase.Refused n ≡ soughtOf (ofWord w a)
@@ -171,8 +173,8 @@ abbrev Kept : List ℕ → List ℕ → Answer → Type 0
 Kept t b a = Holds a b × T (listed t a) × Kinded a
 
 kept : (t b : List ℕ) (x : Table.Found) → take (length (x .key)) b ≡ x .key → T (listed t (found x)) → Kept t b (byKind (some x))
-unfolding byKind listed
-kept t b x h i = test (eqb (kindOf (x .key)) 0) (λ e. rw (e, byKind) (h, i, e)) (λ e. rw (e, byKind) (h, i, e))
+unfolding listed
+kept t b x h i = by-kind (Kept t b) x (λ e. (h, i, e)) (λ e. (h, i, e))
 
 word-kept : (t b w : List ℕ) (a : Answer) → Holds a b → T (listed t a) → Kept t b (ofWord w a)
 unfolding ofWord listed

@@ -1,6 +1,6 @@
 -- `reader::table_reader::by_handle` meets its contract.
 use mathlib.Core.Path.{sym, _∙_}
-use Rattle.reader.proofs.LocateLaws.{not-located, handle-in, handle-out}
+use Rattle.reader.proofs.LocateLaws.{not-located, located}
 use borrow.Author.Needs.{needs}
 use Rattle.reader.proofs.table_reader.by_handle.Statement.{statement}
 use Rattle.reader.proofs.table_reader.by_handle.Tie as tie
@@ -21,10 +21,10 @@ returns : tie.Need-returns
 returns c = not-located _ _ _ (sym (c .before .before .one-handle .ensures) ∙ c .enum-told .given .1)
 
 returns-2 : tie.Need-returns-2
-returns-2 c = handle-in _ _ _ (sym (c .before .before .before .before .before .one-handle .ensures) ∙ c .before .before .before .offset .given .1) (sym (c .before .placed .ensures) ∙ c .if1 .taken)
+returns-2 c = located _ _ _ (sym (c .before .before .before .before .before .one-handle .ensures) ∙ c .before .before .before .offset .given .1) (sym (c .before .placed .ensures) ∙ c .if1 .taken)
 
 returns-3 : tie.Need-returns-3
-returns-3 c = handle-out _ _ _ (sym (c .before .before .before .before .before .one-handle .ensures) ∙ c .before .before .before .offset .given .1) (sym (c .before .placed .ensures) ∙ c .if1 .left)
+returns-3 c = located _ _ _ (sym (c .before .before .before .before .before .one-handle .ensures) ∙ c .before .before .before .offset .given .1) (sym (c .before .placed .ensures) ∙ c .if1 .left)
 
 pub by-handle-spec : {M : Type 1} → statement M
 by-handle-spec =

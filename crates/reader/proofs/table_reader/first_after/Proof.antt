@@ -1,13 +1,6 @@
 -- `reader::table_reader::first_after` meets its contract.
-use Prim.Native.Nat.{ℕ}
-use mathlib.Core.Path.{_≡_}
-use mathlib.Core.Bool.{true}
-use mathlib.Core.List.{List}
 use native.Mathlib.Omega.{arith}
-use lib.ListN.{length}
-use Rattle.codec.specs.Varint.{Handle}
-use Rattle.table.specs.Table.{endsBefore}
-use Rattle.reader.proofs.HitLaws.{contents-is, picks-first, asks-none, said-adds, hit-says}
+use Rattle.reader.proofs.HitLaws.{picks-first, asks-none, said-adds, hit-says}
 use Rattle.reader.proofs.LocateLaws.{sees-placed, sees-refused}
 use Rattle.reader.proofs.LaterLaws.{later-no-place, later-none, later-first}
 use borrow.Author.Needs.{needs}
@@ -17,22 +10,6 @@ use Rattle.reader.proofs.table_reader.first_after.Tie as tie
 -- what the index says
 abbrev start : tie.After-place-index → tie.Start
 start c = c .before .before .before .before
-
-abbrev T : tie.After-place-index → List ℕ
-T c = start c .args .table .now
-
--- the block that it names
-abbrev K : Type 0
-K = tie.After-known-told2
-
-abbrev pi : K → tie.After-place-index
-pi c = c .before .before .before .before .before
-
-abbrev block : K → Handle
-block c = record { offset = c .before .next .given .0 .1 .0; size = c .before .next .given .0 .1 .1 .0 }
-
-placed : (c : K) → endsBefore (length (T (pi c))) (block c .offset) (block c .size) ≡ true
-placed c = sees-placed (pi c .place-index .ensures) (c .before .next .given .1)
 
 place-index-requires : tie.Need-place-index-requires
 place-index-requires c κs = search needs
@@ -57,8 +34,8 @@ first-requires c κs = search needs
 
 hit-requires : tie.Need-hit-requires
 hit-requires c κs =
-    let k = c .before .before .before .before .before in
-    said-adds (T (pi k)) (block k) _ (c .before .before .first .ensures) (contents-is _ _ _ (c .before .before .before .before .part-of .ensures)) (placed k) (omega arith)
+    let k = c .before .before .before .before .before .before in
+    said-adds _ _ _ _ (c .before .before .first .ensures) (c .before .before .before .before .part-of .ensures) (sees-placed (k .before .before .before .before .place-index .ensures) (k .next .given .1)) (omega arith)
 
 same-length : tie.Need-same-length
 same-length c = search needs
@@ -74,7 +51,7 @@ same-length-2 c = search needs
 returns-2 : tie.Need-returns-2
 returns-2 c =
     let l = c .before .before .before .before in
-    later-none (T l) (start l .pre .0) _ (l .place-index .ensures) (c .enum-told .given .1)
+    later-none _ (start l .pre .0) _ (l .place-index .ensures) (c .enum-told .given .1)
 
 same-length-3 : tie.Need-same-length-3
 same-length-3 c = search needs
@@ -82,17 +59,17 @@ same-length-3 c = search needs
 returns-3 : tie.Need-returns-3
 returns-3 c =
     let l = c .before .before .before .before in
-    later-no-place (T l) (start l .pre .0) _ (l .place-index .ensures) (c .enum-told2 .given .1)
+    later-no-place _ (start l .pre .0) _ (l .place-index .ensures) (c .enum-told2 .given .1)
 
 same-length-4 : tie.Need-same-length-4
 same-length-4 c = search needs
 
 returns-4 : tie.Need-returns-4
 returns-4 c =
-    let k = c .before .before .before .before .before .before in
-    let l = pi k in
-    later-first (T l) (start l .pre .0) _ (l .place-index .ensures) (k .before .next .given .1)
-    (hit-says (T l) (block k) _ picks-first asks-none (placed k) (contents-is _ _ _ (c .before .before .before .before .before .part-of .ensures)) (c .before .before .before .first .ensures) (omega arith) (omega arith) (c .hit .ensures))
+    let k = c .before .before .before .before .before .before .before in
+    let l = k .before .before .before .before in
+    later-first _ (start l .pre .0) _ (l .place-index .ensures) (k .next .given .1)
+    (hit-says _ _ _ _ picks-first asks-none (sees-placed (l .place-index .ensures) (k .next .given .1)) (c .before .before .before .before .before .part-of .ensures) (c .before .before .before .first .ensures) (omega arith) (omega arith) (c .hit .ensures))
 
 pub first-after-spec : {M : Type 1} → statement M
 first-after-spec =

@@ -4,7 +4,7 @@ use native.Mathlib.Omega.{arith}
 use Rattle.reader.specs.Parts.{Short}
 use Rattle.table.specs.Reads.{refused}
 use Rattle.reader.specs.Answers.{lookedOf}
-use Rattle.reader.proofs.CallLaws.{three, two, footed, as-shown, look-found, footer-named, footer-indexed}
+use Rattle.reader.proofs.CallLaws.{three, two, footed, as-shown, look-found, footer-read}
 use Rattle.reader.proofs.AnswerLaws.{tells-short}
 use borrow.Author.Needs.{needs}
 use Rattle.reader.proofs.table_reader.lookup.Statement.{statement}
@@ -35,8 +35,8 @@ slice-aggregate-look c = search needs
 
 look-requires : tie.Need-look-requires
 look-requires c κs =
-    let e = sym (c .before .before .before .before .decode .ensures) ∙ c .before .before .meta-offset .given .1 in
-    (footer-named _ e, footer-indexed _ e, refl)
+    let f = footer-read _ (sym (c .before .before .before .before .decode .ensures) ∙ c .before .before .meta-offset .given .1) in
+    (f .0, f .1, refl)
 
 slice-aggregate-hand : tie.Need-slice-aggregate-hand
 slice-aggregate-hand c = search needs
@@ -62,7 +62,7 @@ returns-4 c =
     let d = c .before .before .before .before .before .before .before .before .before .before .before .before .before in
     let f = c .before .before .before .before .before .before .before .before in
     let h = c .before .before .before .before in
-    look-found _ _ (d .before .if2 .left) (footer-indexed _ (sym (d .decode .ensures) ∙ f .before .before .before .meta-offset .given .1)) (h .hand .ensures .0) (h .hand .ensures .1) _ (sym (d .before .before .before .fits2 .ensures) ∙ d .before .before .if1 .taken) (f .look .ensures) (c .by-kind .ensures)
+    look-found _ _ (d .before .if2 .left) (footer-read _ (sym (d .decode .ensures) ∙ f .before .before .before .meta-offset .given .1) .1) (h .hand .ensures .0) (h .hand .ensures .1) _ (sym (d .before .before .before .fits2 .ensures) ∙ d .before .before .if1 .taken) (f .look .ensures) (c .by-kind .ensures)
 
 pub lookup-spec : {M : Type 1} → statement M
 lookup-spec =

@@ -1,5 +1,5 @@
 -- `reader::table_reader::place_index` meets its contract.
-use Rattle.reader.proofs.HitLaws.{contents-is, picks-place, asks-none, said-inside}
+use Rattle.reader.proofs.HitLaws.{picks-place, asks-none, said-inside}
 use Rattle.reader.proofs.LocateLaws.{index-sees}
 use borrow.Author.Needs.{needs}
 use Rattle.reader.proofs.table_reader.place_index.Statement.{statement}
@@ -20,7 +20,7 @@ same-length c = search needs
 returns : tie.Need-returns
 returns c =
     let b = c .before .before .before .before .before .before .before .before in
-    index-sees (b .args .table .now) (b .pre .0) (picks-place _ _) asks-none (contents-is _ _ _ (c .before .before .before .before .before .part-of .ensures)) (c .before .before .before .by-place .ensures) (b .pre .1) (c .locate .ensures)
+    index-sees (b .args .table .now) (b .pre .0) (picks-place _ _) asks-none (c .before .before .before .before .before .part-of .ensures) (c .before .before .before .by-place .ensures) (b .pre .1) (c .locate .ensures)
 
 pub place-index-spec : {M : Type 1} → statement M
 place-index-spec =

@@ -3,7 +3,7 @@ use mathlib.Core.Path.{sym, _∙_, refl}
 use native.Mathlib.Omega.{arith}
 use Rattle.table.specs.Reads.{refused}
 use Rattle.reader.specs.Answers.{soughtOf}
-use Rattle.reader.proofs.CallLaws.{three, two, footed, as-shown, seek-found, footer-indexed}
+use Rattle.reader.proofs.CallLaws.{three, two, footed, as-shown, seek-found, footer-read}
 use Rattle.reader.proofs.AnswerLaws.{tells-short}
 use borrow.Author.Needs.{needs}
 use Rattle.reader.proofs.table_reader.seek.Statement.{statement}
@@ -33,7 +33,7 @@ slice-aggregate-find : tie.Need-slice-aggregate-find
 slice-aggregate-find c = search needs
 
 find-requires : tie.Need-find-requires
-find-requires c κs = (footer-indexed _ (sym (c .before .before .before .before .decode .ensures) ∙ c .before .before .index-offset .given .1), refl)
+find-requires c κs = (footer-read _ (sym (c .before .before .before .before .decode .ensures) ∙ c .before .before .index-offset .given .1) .1, refl)
 
 slice-aggregate-hand : tie.Need-slice-aggregate-hand
 slice-aggregate-hand c = search needs
@@ -52,7 +52,7 @@ returns-4 : tie.Need-returns-4
 returns-4 c =
     let d = c .before .before .before .before .before .before .before .before .before .before .before in
     let f = c .before .before .before .before .before .before in
-    seek-found _ _ (d .before .if2 .left) (footer-indexed _ (sym (d .decode .ensures) ∙ f .before .before .before .index-offset .given .1)) (c .before .before .hand .ensures .0) (c .before .before .hand .ensures .1) _ (sym (d .before .before .before .fits2 .ensures) ∙ d .before .before .if1 .taken) (f .find .ensures)
+    seek-found _ _ (d .before .if2 .left) (footer-read _ (sym (d .decode .ensures) ∙ f .before .before .before .index-offset .given .1) .1) (c .before .before .hand .ensures .0) (c .before .before .hand .ensures .1) _ (sym (d .before .before .before .fits2 .ensures) ∙ d .before .before .if1 .taken) (f .find .ensures)
 
 pub seek-spec : {M : Type 1} → statement M
 seek-spec =

@@ -1,7 +1,7 @@
 -- `reader::table_reader::seek_block` meets its contract.
 use mathlib.Core.Path.{_∙_}
 use native.Mathlib.Omega.{arith}
-use Rattle.reader.proofs.HitLaws.{contents-is, picks-seek, asks-order, said-adds, hit-says}
+use Rattle.reader.proofs.HitLaws.{picks-seek, asks-order, said-adds, hit-says}
 use borrow.Author.Needs.{needs}
 use Rattle.reader.proofs.table_reader.seek_block.Statement.{statement}
 use Rattle.reader.proofs.table_reader.seek_block.Tie as tie
@@ -15,7 +15,7 @@ seek-requires c κs = search needs
 hit-requires : tie.Need-hit-requires
 hit-requires c κs =
     let b = c .before .before .before .before .before .before .before .before in
-    said-adds (b .args .table .now) (record { offset = b .args .offset; size = b .args .size }) _ (c .before .before .seek .ensures) (contents-is _ _ _ (c .before .before .before .before .part-of .ensures)) (b .pre .0) (omega (arith, b .good))
+    said-adds _ _ _ _ (c .before .before .seek .ensures) (c .before .before .before .before .part-of .ensures) (b .pre .0) (omega (arith, b .good))
 
 same-length : tie.Need-same-length
 same-length c = search needs
@@ -23,8 +23,7 @@ same-length c = search needs
 returns : tie.Need-returns
 returns c =
     let b = c .before .before .before .before .before .before .before .before .before in
-    hit-says (b .args .table .now) (record { offset = b .args .offset; size = b .args .size }) (b .args .index) (picks-seek _) asks-order (b .pre .0)
-    (contents-is _ _ _ (c .before .before .before .before .before .part-of .ensures)) (c .before .before .before .seek .ensures) (b .pre .1) (c .before .before .before .seek .kept .1 .1 .1 .0 ∙ b .pre .1) (c .hit .ensures)
+    hit-says _ _ _ _ (picks-seek _) asks-order (b .pre .0) (c .before .before .before .before .before .part-of .ensures) (c .before .before .before .seek .ensures) (b .pre .1) (c .before .before .before .seek .kept .1 .1 .1 .0 ∙ b .pre .1) (c .hit .ensures)
 
 pub seek-block-spec : {M : Type 1} → statement M
 seek-block-spec =

@@ -1,5 +1,5 @@
 -- `reader::table_reader::seek_index` meets its contract.
-use Rattle.reader.proofs.HitLaws.{contents-is, picks-seek, asks-order, said-inside}
+use Rattle.reader.proofs.HitLaws.{picks-seek, asks-order, said-inside}
 use Rattle.reader.proofs.LocateLaws.{index-sees}
 use borrow.Author.Needs.{needs}
 use Rattle.reader.proofs.table_reader.seek_index.Statement.{statement}
@@ -20,7 +20,7 @@ same-length c = search needs
 returns : tie.Need-returns
 returns c =
     let b = c .before .before .before .before .before .before .before .before .before in
-    index-sees (b .args .table .now) (b .pre .0) (picks-seek _) asks-order (contents-is _ _ _ (c .before .before .before .before .before .part-of .ensures)) (c .before .before .before .seek .ensures) (b .pre .1) (c .locate .ensures)
+    index-sees (b .args .table .now) (b .pre .0) (picks-seek _) asks-order (c .before .before .before .before .before .part-of .ensures) (c .before .before .before .seek .ensures) (b .pre .1) (c .locate .ensures)
 
 pub seek-index-spec : {M : Type 1} → statement M
 seek-index-spec =

@@ -1,7 +1,7 @@
 -- `reader::table_reader::step` meets its contract.
 use mathlib.Core.Path.{sym, _∙_, refl}
 use native.Mathlib.Omega.{arith}
-use Rattle.reader.proofs.CallLaws.{step-two, step-footed, step-found, footer-indexed}
+use Rattle.reader.proofs.CallLaws.{step-two, step-footed, step-found, footer-read}
 use Rattle.reader.proofs.AnswerLaws.{tells-short}
 use borrow.Author.Needs.{needs}
 use Rattle.reader.proofs.table_reader.step.Statement.{statement}
@@ -23,7 +23,7 @@ slice-aggregate-follow : tie.Need-slice-aggregate-follow
 slice-aggregate-follow c = search needs
 
 follow-requires : tie.Need-follow-requires
-follow-requires c κs = (footer-indexed _ (sym (c .before .before .before .before .decode .ensures) ∙ c .before .before .index-offset .given .1), refl)
+follow-requires c κs = (footer-read _ (sym (c .before .before .before .before .decode .ensures) ∙ c .before .before .index-offset .given .1) .1, refl)
 
 slice-aggregate-hand : tie.Need-slice-aggregate-hand
 slice-aggregate-hand c = search needs
@@ -41,7 +41,7 @@ returns-3 : tie.Need-returns-3
 returns-3 c =
     let d = c .before .before .before .before .before .before .before .before .before .before .before in
     let f = c .before .before .before .before .before .before in
-    step-found _ _ (d .before .if1 .left) (footer-indexed _ (sym (d .decode .ensures) ∙ f .before .before .before .index-offset .given .1)) (c .before .before .hand .ensures .0) (c .before .before .hand .ensures .1) _ _ (f .follow .ensures)
+    step-found _ _ (d .before .if1 .left) (footer-read _ (sym (d .decode .ensures) ∙ f .before .before .before .index-offset .given .1) .1) (c .before .before .hand .ensures .0) (c .before .before .hand .ensures .1) _ _ (f .follow .ensures)
 
 pub step-spec : {M : Type 1} → statement M
 step-spec =
