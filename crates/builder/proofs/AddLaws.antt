@@ -10,7 +10,7 @@ use lib.ListN.{length, take}
 use Rattle.codec.specs.Put.{Wrote}
 use Rattle.codec.specs.declared.put.Written.{Written}
 use Rattle.codec.specs.declared.put.Written.the-variants.{At, NoRoom}
-use Rattle.codec.proofs.Prelude.{test, both, true-is}
+use Rattle.codec.proofs.Prelude.{test, true-is, apart}
 use Rattle.codec.proofs.PutLaws.{put-length, put-front, wrote-next, wrote-never}
 use Rattle.keys.specs.Order.{internal}
 use Rattle.keys.proofs.KeyLaws.{internal-length}
@@ -19,8 +19,7 @@ use Rattle.table.specs.Options.{Options, Addition, additionFits}
 use Rattle.table.specs.Build.{Building, keyOf, begin, closeBefore, add, finish, above, accept, acceptAll}
 use Rattle.table.proofs.CheckedLaws.{refuse-pass}
 use Rattle.table.specs.Runs.{Runs, between, overlaid, FitsRoom, roomOf}
-use Rattle.table.proofs.AcceptLaws.{within-parts, took, accept-more}
-use Rattle.codec.specs.Limits.{within}
+use Rattle.table.proofs.AcceptLaws.{fit-parts, took, accept-more}
 use Rattle.table.proofs.SufficeLaws.{runs-suffice}
 use Rattle.builder.specs.declared.table_builder.Answer.{Answer}
 use Rattle.builder.specs.declared.table_builder.Answer.the-variants as AnswerCase
@@ -33,7 +32,7 @@ use Rattle.builder.specs.Steps.{Whole, Ready, earlyOf, midOf, nextOf, en
 use Rattle.builder.specs.Writes.{ClosedOut, ClosedIndex, ClosedFilters, EnteredRuns}
 use Rattle.builder.specs.Answers.{answerOf, Later, Traced, AddedIs}
 use Rattle.builder.proofs.CloseLaws.{Counted, ClosedRuns, closed-kept, indexKey, index-key-closed, closed-all}
-use Rattle.builder.proofs.DecideLaws.{mid-cut}
+use Rattle.builder.proofs.DecideLaws.{early-sane, mid-cut}
 use Rattle.builder.proofs.EnterLaws.{enter-fits, entered-all}
 use Rattle.builder.proofs.TraceLaws.{refusalOf, lengths-of, start-lengths, overlaid-itself, stands-counted, cut-close, no-cut-close, sep-short, mid-counted, roomy, addition-short, trace-began, trace-fits, trace-sane, trace-is-small, trace-next, trace-whole, trace-decides, next-short, next-lengths, mid-same}
 
@@ -196,10 +195,6 @@ early-zero s l t e = go (s .finished) (sane s l) t e
     go false true false e = absurd (omega arith)
     go false false z e = absurd (omega arith)
 
-pub early-traced : (s : Builder) (l : Lengths) (t : Bool) → s .finished ≡ false → sane s l ≡ true → earlyOf s l t ≡ cond t 0 3
-unfolding earlyOf
-early-traced s l t e f = rw (f, e)
-
 accept-short : (o : Options) (room : ℕ) (b : Building) (a : Addition) → additionFits a ≡ false → accept o room b a ≡ refuse 3
 unfolding accept ask _>>=_
 accept-short o room b a f = rw f
@@ -221,10 +216,10 @@ module _ (s : Builder) (r : Runs) (a : Addition) where
         refused = λ m x. (refl, refl);
         traced = λ o more b e st.
             test (additionFits a)
-            (λ f. absurd (z (w ∙ early-traced s (lengthsOf r) (additionFits a) (st .going) (trace-sane o more b s r e st) ∙ rw f)))
+            (λ f. absurd (z (w ∙ early-sane s (lengthsOf r) (additionFits a) (st .going) (trace-sane o more b s r e st) ∙ rw f)))
             (λ f.
             let x = accept-short o (roomOf (length (r .out))) b a f in
-            let y : n ≡ 3 = w ∙ early-traced s (lengthsOf r) (additionFits a) (st .going) (trace-sane o more b s r e st) ∙ rw f in
+            let y : n ≡ 3 = w ∙ early-sane s (lengthsOf r) (additionFits a) (st .going) (trace-sane o more b s r e st) ∙ rw f in
             record {
               answer = ap AnswerCase.Refused y ∙ sym (ap answerOf x ∙ (unfold answerOf in refl));
               stands = λ c k. absurd (refuse-pass (sym x ∙ k));
@@ -270,13 +265,12 @@ module _ (s : Builder) (r : Runs) (a : Addition) where
           record {
             early = λ y. absurd (y (ap (earlyOf s (lengthsOf r)) (sym p) ∙ sym q ∙ z));
             later = λ y. later-is;
-            refused = λ m y. g .kept (λ k. let v = sym (no-refusal k) ∙ y in let u : _≡_ {A = ℕ} 0 1 = cc in omega arith);
+            refused = λ m y. g .kept (λ k. let v = sym (no-refusal k) ∙ y in apart cc);
             traced = traced-is;
           }
 
 pub word-short : (a : Addition) → additionFits a ≡ true → length (a .word) ≤ 1024
-unfolding additionFits
-word-short a f = within-parts 1 1024 (length (a .word)) (both (within 1 1024 (length (a .word))) _ f .0) .1
+word-short a f = fit-parts a f .high
 
 pub add-is-ready : (s : Builder) (r : Runs) (a : Addition) → (sane s (lengthsOf r) ≡ true) × (additionFits a ≡ true) → {n : ℕ} → n ≤ 1032 → Ready s (lengthsOf r) n (length (a .value))
 add-is-ready s r a f h = record { sound = f .0; key = h; value = addition-short a (f .1) .1 }

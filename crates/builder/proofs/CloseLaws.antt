@@ -6,7 +6,6 @@ use mathlib.Core.Bool.{Bool, true, false}
 use native.Mathlib.Nat.{zero-add, add-zero}
 use native.Mathlib.Omega.{arith}
 use lib.ListN.{length, take, drop, length-append, length-replicate}
-use lib.Seq.{take-at}
 use borrow.Author.Tests.{le-leb, lt-ltb}
 use Rattle.codec.specs.Bytes.{part}
 use Rattle.codec.specs.Checksum.{trailer}
@@ -42,7 +41,7 @@ use Rattle.builder.specs.State.{optionsOf, countsIn}
 use Rattle.builder.specs.Steps.{Small, Whole, openSize, endsAt, closedState}
 use Rattle.builder.specs.Writes.{tailedOut, sealedOut, ClosedOut, ClosedIndex, ClosedFilters}
 use Rattle.builder.proofs.SizeLaws.{closed-counts, index-countable}
-use Rattle.table.proofs.OverlayLaws.{overlay-none, overlay-front, overlay-of, overlay-put, overlay-first, overlay-same}
+use Rattle.table.proofs.OverlayLaws.{overlay-none, overlay-front, overlay-of, overlay-long, overlay-put, overlay-first, overlay-same, each, all-seven}
 use Rattle.builder.proofs.GroupLaws.{filters-until, waits-until, starts-append}
 
 -- ---- a state that counts a table being built
@@ -63,6 +62,11 @@ pub record Lens (d : Runs) (s : Builder) : Type 0 where
   pub indexRestarts : length (d .indexRestarts) ≡ s .indexed .restarts
   pub offsets : length (d .offsets) ≡ s .made
   pub hashes : length (d .hashes) ≡ s .waiting
+
+-- a block that counts its entries: their bytes and restarts
+pub counted-long : {i : ℕ} {ps : List Pair} {b : BlockBuilder} → Counting i ps b → (b .bytes ≡ length (packed i i [] ps)) × (b .restarts ≡ length (restartsOf i i [] 0 ps))
+unfolding countIn countOf
+counted-long c = (ap (λ (x : BlockCount). x .bytes) (c .counts), ap (λ (x : BlockCount). x .restarts) (c .counts))
 
 module _ {o : Options} {b : Building} {s : Builder} (h : Counted o b s) where
   abbrev ps : List Pair
@@ -88,75 +92,52 @@ module _ {o : Options} {b : Building} {s : Builder} (h : Counted o b s) where
   unfolding countsIn countsOf
   filters-is = ap (λ (c : Counts). c .filters) (h .counts)
 
-  pub bytes-is : s .pending .bytes ≡ length (packed (o .interval) (o .interval) [] ps)
-  unfolding countIn countOf
-  bytes-is = ap (λ (c : BlockCount). c .bytes) (counting .counts)
-
   pub open-size : openSize s ≡ length (chunkBytes o (b .openBlock))
   unfolding openSize
   open-size = ap countSize (counting .counts) ∙ sym (chunk-size o (b .openBlock))
 
-  pub restarts-is : s .pending .restarts ≡ length (restartsOf (o .interval) (o .interval) [] 0 ps)
-  unfolding countIn countOf
-  restarts-is = ap (λ (c : BlockCount). c .restarts) (counting .counts)
-
-  index-bytes-is : s .indexed .bytes ≡ length (packed (indexInterval o) (indexInterval o) [] is)
-  unfolding countIn countOf
-  index-bytes-is = ap (λ (c : BlockCount). c .bytes) (index-counting .counts)
-
-  index-restarts-is : s .indexed .restarts ≡ length (restartsOf (indexInterval o) (indexInterval o) [] 0 is)
-  unfolding countIn countOf
-  index-restarts-is = ap (λ (c : BlockCount). c .restarts) (index-counting .counts)
-
-  pub filtered-is : s .filtered ≡ length (madeBytes (o .filtering) (fs .made))
+  pub filters-are : (s .filtered ≡ length (madeBytes (o .filtering) (fs .made))) × (s .made ≡ length (fs .made)) × (s .waiting ≡ length (fs .waiting))
   unfolding filterCountOf
-  filtered-is = ap (λ (c : FilterCount). c .bytes) filters-is
-
-  pub made-is : s .made ≡ length (fs .made)
-  unfolding filterCountOf
-  made-is = ap (λ (c : FilterCount). c .made) filters-is
-
-  pub waiting-is : s .waiting ≡ length (fs .waiting)
-  unfolding filterCountOf
-  waiting-is = ap (λ (c : FilterCount). c .waiting) filters-is
+  filters-are = (ap (λ (c : FilterCount). c .bytes) filters-is, ap (λ (c : FilterCount). c .made) filters-is, ap (λ (c : FilterCount). c .waiting) filters-is)
 
   pub lens : Lens (between o b) s
   unfolding between held entriesOf restartsIn
   lens =
+      let c = counted-long counting in
+      let i = counted-long index-counting in
+      let f = filters-are in
       record {
-        out = simp length-append (omega (arith, written-is, bytes-is));
-        index = sym index-bytes-is;
-        filters = sym filtered-is;
-        restarts = sym restarts-is;
-        indexRestarts = sym index-restarts-is;
-        offsets = starts-length (o .filtering) 0 (fs .made) ∙ sym made-is;
-        hashes = sym waiting-is;
+        out = simp length-append (omega (arith, written-is));
+        index = sym (i .0);
+        filters = sym (f .0);
+        restarts = sym (c .1);
+        indexRestarts = sym (i .1);
+        offsets = starts-length (o .filtering) 0 (fs .made) ∙ sym (f .1);
+        hashes = sym (f .2);
       }
 
   -- the open block stands in runs that hold the table
   pub open-stands : {e q : List ℕ} (r r′ : List ℕ) → e ≡ overlay (between o b .out) r → q ≡ overlay (between o b .restarts) r′ → Blocks.Stands (o .interval) ps (s .pending) (s .written) e q
-  unfolding between held entriesOf restartsIn part overlay
+  unfolding between held entriesOf restartsIn
   open-stands {e} {q} r r′ p m =
       let i = o .interval in
-      let f = overlay-first (written o (b .closed)) (packed i i [] ps) e r p in
+      let c = counted-long counting in
       record {
         counting = counting;
-        entries = rw (written-is, bytes-is) (f .1);
-        marks = rw (restarts-is, m) (take-all (restartsOf i i [] 0 ps) (drop (length (restartsOf i i [] 0 ps)) r′));
+        entries = rw (written-is, c .0) (overlay-first (written o (b .closed)) (packed i i [] ps) e r p .1);
+        marks = rw (c .1) (overlay-front (restartsOf i i [] 0 ps) q r′ m);
       }
-    where
-      take-all : (w r : List ℕ) → take (length w) (w ++ r) ≡ w
-      take-all w r = take-at w r (length w) refl
 
   -- and so does the index
   pub index-stands : {e q : List ℕ} (r r′ : List ℕ) → e ≡ overlay (between o b .index) r → q ≡ overlay (between o b .indexRestarts) r′ → Blocks.Stands (indexInterval o) is (s .indexed) 0 e q
-  unfolding between held entriesOf restartsIn part overlay
+  unfolding between held entriesOf restartsIn part
   index-stands {e} {q} r r′ p m =
       let i = indexInterval o in
+      let c = counted-long index-counting in
       record {
         counting = index-counting;
-        entries = rw (index-bytes-is, p) (take-at (packed i i [] is) (drop (length (packed i i [] is)) r) (length (packed i i [] is)) refl);
-        marks = rw (index-restarts-is, m) (take-at (restartsOf i i [] 0 is) (drop (length (restartsOf i i [] 0 is)) r′) (length (restartsOf i i [] 0 is)) refl);
+        entries = rw (c .0) (overlay-front (packed i i [] is) e r p);
+        marks = rw (c .1) (overlay-front (restartsOf i i [] 0 is) q r′ m);
       }
 
 -- ---- the open block closed, or not: what that leaves in the runs
@@ -198,12 +179,11 @@ fits-addable b at out restarts key value c x y m =
 -- a block at the front of two runs
 pub entry-overlay : {i : ℕ} {qs : List Pair} {b : BlockBuilder} {x y : List ℕ} (x₀ y₀ : List ℕ) → Blocks.Stands i qs b 0 x y → drop (0 + b .bytes) x ≡ drop (0 + b .bytes) x₀ → drop (b .restarts) y ≡ drop (b .restarts) y₀
     → (x ≡ overlay (packed i i [] qs) x₀) × (y ≡ overlay (restartsOf i i [] 0 qs) y₀)
-unfolding part countIn countOf
+unfolding part
 entry-overlay {i} {qs} {b} {x} {y} x₀ y₀ s p q =
-    let n : b .bytes ≡ length (packed i i [] qs) = ap (λ (c : BlockCount). c .bytes) (s .counting .counts) in
-    let m : b .restarts ≡ length (restartsOf i i [] 0 qs) = ap (λ (c : BlockCount). c .restarts) (s .counting .counts) in (
-      overlay-of (packed i i [] qs) x x₀ (rw n at (s .entries)) (rw (zero-add (b .bytes), n) at p),
-      overlay-of (restartsOf i i [] 0 qs) y y₀ (rw m at (s .marks)) (rw m at q),
+    let c = counted-long (s .counting) in (
+      overlay-of (packed i i [] qs) x x₀ (rw (c .0) at (s .entries)) (rw (zero-add (b .bytes), c .0) at p),
+      overlay-of (restartsOf i i [] 0 qs) y y₀ (rw (c .1) at (s .marks)) (rw (c .1) at q),
     )
 
 pub made-room : (c : Filtering) (gs : List (List ℕ)) (bytes made : ℕ) (f q : List ℕ) → bytes + length (madeBytes c gs) ≤ length f → made + length (starts c bytes gs) ≤ length q
@@ -211,6 +191,28 @@ pub made-room : (c : Filtering) (gs : List (List ℕ)) (bytes made : ℕ) (f q :
 unfolding roomFor room
 made-room c gs bytes made f q x y z =
     rw (le-leb (bytes + length (madeBytes c gs)) (length f) x, le-leb (made + length (starts c bytes gs)) (length q) y, le-leb (bytes + length (madeBytes c gs)) (2 ^ 32 - 1) z)
+
+-- filters made behind those that stand in the runs
+pub made-overlay : (c : Filtering) (ms gs : List (List ℕ)) {bytes made : ℕ} {e : Made} {f f′ q q′ : List ℕ} (f₀ q₀ : List ℕ) → MadeFilters c gs bytes made e f f′ q q′
+    → bytes ≡ length (madeBytes c ms) → made ≡ length ms → f ≡ overlay (madeBytes c ms) f₀ → q ≡ overlay (starts c 0 ms) q₀
+    → length (madeBytes c (ms ++ gs)) ≤ length f₀ → length (starts c 0 (ms ++ gs)) ≤ length q₀ → length (madeBytes c (ms ++ gs)) ≤ 2 ^ 32 - 1
+    → (f′ ≡ overlay (madeBytes c (ms ++ gs)) f₀) × (q′ ≡ overlay (starts c 0 (ms ++ gs)) q₀)
+made-overlay c ms gs {bytes} {made} {f = f} {q = q} f₀ q₀ x bi mi pf pq lf lq u =
+    let mb = made-append c ms gs in
+    let ob : starts c 0 (ms ++ gs) ≡ starts c 0 ms ++ starts c bytes gs =
+    starts-append c 0 ms gs ∙ ap (λ (n : ℕ). starts c 0 ms ++ starts c n gs) (zero-add (length (madeBytes c ms)) ∙ sym bi) in
+    let lm : length (madeBytes c ms ++ madeBytes c gs) ≤ length f₀ = rw mb at lf in
+    let lo : length (starts c 0 ms ++ starts c bytes gs) ≤ length q₀ = rw ob at lq in
+    let lu : length (madeBytes c ms ++ madeBytes c gs) ≤ 2 ^ 32 - 1 = rw mb at u in
+    let nm = length-append (madeBytes c ms) (madeBytes c gs) in
+    let no′ = length-append (starts c 0 ms) (starts c bytes gs) in
+    let sl = starts-length c 0 ms in
+    let kf = overlay-long (madeBytes c ms) f f₀ pf (omega arith) in
+    let kq = overlay-long (starts c 0 ms) q q₀ pq (omega arith) in
+    let ok : roomFor c bytes gs f q made ≡ true = made-room c gs bytes made f q (omega arith) (omega arith) (omega arith) in (
+      x .filters ∙ rw ok (overlay-put (madeBytes c ms) (madeBytes c gs) f f₀ bytes bi pf lm ∙ ap (λ (z : List ℕ). overlay z f₀) (sym mb)),
+      x .offsets ∙ rw ok (overlay-put (starts c 0 ms) (starts c bytes gs) q q₀ made (omega arith) pq lo ∙ ap (λ (z : List ℕ). overlay z q₀) (sym ob)),
+    )
 
 -- ---- a block closed
 
@@ -349,41 +351,25 @@ module _ {o : Options} {b : Building} {s : Builder} (h : Counted o b s) (m : Sma
       → (f′ ≡ overlay (between o d .filters) f) × (q′ ≡ overlay (between o d .offsets) q)
   unfolding between held
   closed-filters f q hs {f′} {q′} {e} g ph pf pq lf lq u =
-      let c = o .filtering in
-      let ms = filtersNow o b .made in
-      let gs = groups in
-      let w : take (s .waiting) hs ≡ filtersNow o b .waiting = rw (waiting-is h) (overlay-front (filtersNow o b .waiting) hs hs ph) in
-      let gg : groupsUpTo (s .made) (endsAt s / 2048) (take (s .waiting) hs) ≡ gs = ap₂ (λ (n : ℕ) (v : List ℕ). groupsUpTo n (endsAt s / 2048) v) (made-is h) w in
-      let x : MadeFilters c gs (s .filtered) (s .made) e f f′ q q′ = rw (options-filter s o (h .options), gg) at g in
-      let mb : madeBytes c (filtersNow o d .made) ≡ madeBytes c ms ++ madeBytes c gs = ap (madeBytes c) made-close ∙ made-append c ms gs in
-      let ob : starts c 0 (filtersNow o d .made) ≡ starts c 0 ms ++ starts c (s .filtered) gs =
-      ap (starts c 0) made-close ∙ starts-append c 0 ms gs ∙ ap (λ (n : ℕ). starts c 0 ms ++ starts c n gs) (zero-add (length (madeBytes c ms)) ∙ sym (filtered-is h)) in
-      let lm : length (madeBytes c ms ++ madeBytes c gs) ≤ length f = rw mb at lf in
-      let lo : length (starts c 0 ms ++ starts c (s .filtered) gs) ≤ length q = rw ob at lq in
-      let lu : length (madeBytes c ms ++ madeBytes c gs) ≤ 2 ^ 32 - 1 = rw mb at u in
-      let nm = length-append (madeBytes c ms) (madeBytes c gs) in
-      let no′ = length-append (starts c 0 ms) (starts c (s .filtered) gs) in
-      let sl = starts-length c 0 ms in
-      let bi = filtered-is h in
-      let mi = made-is h in
-      let ok : roomFor c (s .filtered) gs f q (s .made) ≡ true =
-      made-room c gs (s .filtered) (s .made) f q (omega arith) (omega arith) (omega arith) in
-      let nf : s .made ≡ length (starts c 0 ms) = omega arith in (
-        x .filters ∙ rw ok (overlay-put (madeBytes c ms) (madeBytes c gs) f f (s .filtered) bi pf lm ∙ ap (λ (z : List ℕ). overlay z f) (sym mb)),
-        x .offsets ∙ rw ok (overlay-put (starts c 0 ms) (starts c (s .filtered) gs) q q (s .made) nf pq lo ∙ ap (λ (z : List ℕ). overlay z q) (sym ob)),
-      )
+      let n = filters-are h in
+      let w : take (s .waiting) hs ≡ filtersNow o b .waiting = rw (n .2) (overlay-front (filtersNow o b .waiting) hs hs ph) in
+      let gg : groupsUpTo (s .made) (endsAt s / 2048) (take (s .waiting) hs) ≡ groups = ap₂ (λ (n : ℕ) (v : List ℕ). groupsUpTo n (endsAt s / 2048) v) (n .1) w in
+      let x : MadeFilters (o .filtering) groups (s .filtered) (s .made) e f f′ q q′ = rw (options-filter s o (h .options), gg) at g in
+      rw made-close (made-overlay (o .filtering) (filtersNow o b .made) groups f q x (n .0) (n .1) pf pq (rw made-close at lf) (rw made-close at lq) (rw made-close at u))
 
   -- all seven
   pub closed-all : (room : ℕ) (r r′ : Runs) → Rooms room r → FitsRoom room (between o b) → FitsRoom room (between o d) → r ≡ overlaid (between o b) r → {closing : Bool} → closing ≡ true → ClosedRuns closing s key r r′
       → r′ ≡ overlaid (between o d) r
-  unfolding overlaid
   closed-all room r r′ z t u p y g =
-      let lo = u .out in
-      let ix = closed-index (r .index) (r .indexRestarts) (g .index .done y) (ap (λ (x : Runs). x .index) p) (ap (λ (x : Runs). x .indexRestarts) p) (omega (arith, u .index, z .index))
-      (omega (arith, u .indexRestarts, z .indexRestarts)) (omega (arith, t .index, z .limit)) in
-      let fx = closed-filters (r .filters) (r .offsets) (r .hashes) (g .filters .done y) (ap (λ (x : Runs). x .hashes) p) (ap (λ (x : Runs). x .filters) p) (ap (λ (x : Runs). x .offsets) p)
-      (omega (arith, u .filters, z .filters)) (omega (arith, u .offsets, z .offsets)) (omega (arith, u .filters, z .limit)) in
-      let ox = g .out .done y ∙ closed-out (r .out) (r .restarts) (ap (λ (x : Runs). x .out) p) (ap (λ (x : Runs). x .restarts) p) (omega (arith, u .out, z .out)) in
-      let rx : r′ .restarts ≡ overlay (between o d .restarts) (r .restarts) = g .restarts ∙ (unfold between held close restartsIn restartsOf in overlay-none (r .restarts)) in
-      let hx = g .hashes ∙ closed-hashes (r .hashes) (ap (λ (x : Runs). x .hashes) p) in
-      λ i. record { out = ox i; index = ix .0 i; filters = fx .0 i; restarts = rx i; indexRestarts = ix .1 i; offsets = fx .1 i; hashes = hx i }
+      let e = each p in
+      let ix = closed-index (r .index) (r .indexRestarts) (g .index .done y) (e .index) (e .indexRestarts) (omega (arith, u .index, z .index)) (omega (arith, u .indexRestarts, z .indexRestarts)) (omega (arith, t .index, z .limit)) in
+      let fx = closed-filters (r .filters) (r .offsets) (r .hashes) (g .filters .done y) (e .hashes) (e .filters) (e .offsets) (omega (arith, u .filters, z .filters)) (omega (arith, u .offsets, z .offsets)) (omega (arith, u .filters, z .limit)) in
+      all-seven (record {
+        out = g .out .done y ∙ closed-out (r .out) (r .restarts) (e .out) (e .restarts) (omega (arith, u .out, z .out));
+        index = ix .0;
+        filters = fx .0;
+        restarts = g .restarts ∙ (unfold between held close restartsIn restartsOf in overlay-none (r .restarts));
+        indexRestarts = ix .1;
+        offsets = fx .1;
+        hashes = g .hashes ∙ closed-hashes (r .hashes) (e .hashes);
+      })

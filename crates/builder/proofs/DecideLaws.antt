@@ -1,9 +1,9 @@
 -- What is decided of an addition before anything is written.
 use Prim.Native.Nat.{ℕ, _+_, _-_, _≤_}
 use mathlib.Core.Path.{_≡_, refl, sym, ap, _∙_}
-use mathlib.Core.Logic.{inl, inr}
+use mathlib.Core.Logic.{_⊎_, inl, inr, ⊎-elim}
 use mathlib.Core.List.{List}
-use mathlib.Core.Bool.{Bool, true, false, _&&_}
+use mathlib.Core.Bool.{Bool, true, false, _&&_, cond}
 use native.Mathlib.Omega.{arith}
 use lib.Dec.{leb, ltb}
 use lib.ListN.{length, length-append, length-take}
@@ -77,13 +77,9 @@ module _ (s : Builder) (l : Lengths) (t : Bool) where
   unfolding earlyOf
   early-insane e f g = let n : sane s l ≡ false = sym f ∙ g in rw (n, e)
 
-  pub early-fits : s .finished ≡ false → {u : Bool} → u ≡ sane s l → u ≡ true → t ≡ true → 0 ≡ earlyOf s l t
+  pub early-sane : s .finished ≡ false → sane s l ≡ true → earlyOf s l t ≡ cond t 0 3
   unfolding earlyOf
-  early-fits e f g h = let n : sane s l ≡ true = sym f ∙ g in rw (n, e, h)
-
-  pub early-large : s .finished ≡ false → {u : Bool} → u ≡ sane s l → u ≡ true → t ≡ false → 3 ≡ earlyOf s l t
-  unfolding earlyOf
-  early-large e f g h = let n : sane s l ≡ true = sym f ∙ g in rw (n, e, h)
+  early-sane e f = rw (f, e)
 
 -- ---- separators
 
@@ -174,15 +170,18 @@ module _ (s : Builder) (l : Lengths) where
 -- ---- all of it
 
 module _ (s : Builder) (l : Lengths) (key : List ℕ) (v : ℕ) (m n : Builder) where
+  decided-not : {a : ℕ} → (a ≡ 4) ⊎ (a ≡ 5) → (Whole (nextOf s key v) → a ≡ decideOf s l key v) → DecidedIs s l key v (record { answer = a; cut = false; mid = m; next = n })
+  decided-not {a} k e =
+      let some : a ≡ 0 → ⊥ = λ z. ⊎-elim (λ x. omega arith) (λ x. omega arith) k in
+      record { kind = inr k; answer = e; cut = λ z. absurd (some z); mid = λ z. absurd (some z); next = λ z. absurd (some z); small = λ z. absurd (some z) }
+
   pub decided-large : {t : Bool} → t ≡ small s → t ≡ false → DecidedIs s l key v (record { answer = 5; cut = false; mid = m; next = n })
   unfolding decideOf
-  decided-large e f =
-      record { kind = inr (inr refl); answer = λ w. rw (sym e ∙ f); cut = λ z. absurd (omega arith); mid = λ z. absurd (omega arith); next = λ z. absurd (omega arith); small = λ z. absurd (omega arith) }
+  decided-large e f = decided-not (inr refl) (λ w. rw (sym e ∙ f))
 
   pub decided-low : {t u : Bool} → t ≡ small s → t ≡ true → u ≡ aboveLast s key → u ≡ false → DecidedIs s l key v (record { answer = 4; cut = false; mid = m; next = n })
   unfolding decideOf
-  decided-low e f g h =
-      record { kind = inr (inl refl); answer = λ w. rw (sym e ∙ f, sym g ∙ h); cut = λ z. absurd (omega arith); mid = λ z. absurd (omega arith); next = λ z. absurd (omega arith); small = λ z. absurd (omega arith) }
+  decided-low e f g h = decided-not (inl refl) (λ w. rw (sym e ∙ f, sym g ∙ h))
 
   module _ {t u r : Bool} (e : t ≡ small s) (f : t ≡ true) (g : u ≡ aboveLast s key) (h : u ≡ true) {m′ n′ : Builder} (p : m′ ≡ midOf s key) (q : n′ ≡ enteredState m′ key v)
       (k : Whole n′ → r ≡ fitsOf n′ l) where
@@ -195,15 +194,7 @@ module _ (s : Builder) (l : Lengths) (key : List ℕ) (v : ℕ) (m n : Builder) 
 
     pub decided-full : r ≡ false → DecidedIs s l key v (record { answer = 5; cut = false; mid = m; next = n })
     unfolding decideOf
-    decided-full j =
-        record {
-          kind = inr (inr refl);
-          answer = λ w. rw (sym e ∙ f, sym g ∙ h, fits-is w ∙ j);
-          cut = λ z. absurd (omega arith);
-          mid = λ z. absurd (omega arith);
-          next = λ z. absurd (omega arith);
-          small = λ z. absurd (omega arith);
-        }
+    decided-full j = decided-not (inr refl) (λ w. rw (sym e ∙ f, sym g ∙ h, fits-is w ∙ j))
 
     pub decided-ok : Small s → {c : Bool} → c ≡ cutOf s → r ≡ true → DecidedIs s l key v (record { answer = 0; cut = c; mid = m′; next = n′ })
     unfolding decideOf

@@ -2,7 +2,7 @@
 use Prim.Native.Nat.{ℕ, _+_, _*_, _-_, _^_, _≤_, min}
 use mathlib.Core.Path.{_≡_, refl, sym, ap, subst, _∙_}
 use mathlib.Core.Logic.{inl, inr}
-use mathlib.Core.Bool.{Bool, true, false, _&&_}
+use mathlib.Core.Bool.{Bool, true, false, _&&_, cond}
 use lib.Dec.{leb}
 use borrow.Author.Tests.{leb-true}
 use Rattle.codec.proofs.Prelude.{both}
@@ -23,7 +23,7 @@ use Rattle.filter_block.specs.Choice.{choiceOf}
 use Rattle.filters.proofs.FilterBlockLaws.{block-of-long}
 use Rattle.table.specs.Build.{framed, metaName, footerBytes}
 use Rattle.table.specs.Runs.{overlay}
-use Rattle.table.specs.Counts.{handleSize}
+use Rattle.table.proofs.CountsLaws.{handle-length}
 use Rattle.table.proofs.FrameLaws.{framed-length}
 use Rattle.builder.specs.declared.table_builder.Builder.{Builder}
 use Rattle.builder.specs.declared.table_builder.FilterSizes.{FilterSizes}
@@ -45,8 +45,7 @@ pub meta-long : (s : Builder) (size : ℕ) → metaLen (choiceOf (s .options .fi
 unfolding metaLen metaBlock
 meta-long s size =
     let p : Pair = record { key = metaName (choiceOf (s .options .filter)); value = handleBytes (record { offset = s .written; size = size }) } in
-    let v : length (p .value) ≡ handleSize (s .written) size = unfold handleBytes handleSize in simp length-append in
-    sym (one-long (s .options .interval) p ∙ ap (λ (n : ℕ). n + 8) (entry-long 0 p ∙ ap (λ (n : ℕ). entrySize 0 (length (p .key)) n) v))
+    sym (one-long (s .options .interval) p ∙ ap (λ (n : ℕ). n + 8) (entry-long 0 p ∙ ap (λ (n : ℕ). entrySize 0 (length (p .key)) n) (handle-length (s .written) size)))
 
 -- contents and their trailer behind what stands
 behind : {out out′ : List ℕ} {at : ℕ} {bs : List ℕ} (w r : List ℕ) → Framed out at bs out′ → out ≡ overlay w r → at ≡ length w → length (w ++ framed bs) ≤ length r → out′ ≡ overlay (w ++ framed bs) r
@@ -103,18 +102,20 @@ module _ (s : Builder) (f : FilterSizes) (filters offsets index rs out : List �
 -- ---- what is decided
 
 module _ (s : Builder) (l : Lengths) (x : Builder) (y : FilterSizes) where
-  pub ending-large : {t : Bool} → t ≡ small s → t ≡ false → EndingIs s l (record { answer = 5; size = 0; last = x; sizes = y })
-  ending-large {t} e f =
-      let n : small s ≡ false = sym e ∙ f in
+  ending-not : (Whole s → _≡_ {A = ℕ} 5 (cond (small s && endable s l) 0 5)) → EndingIs s l (record { answer = 5; size = 0; last = x; sizes = y })
+  ending-not e =
       record {
         kind = inr refl;
-        answer = λ w. rw n;
+        answer = e;
         size = λ z. absurd (omega arith);
         small = λ z. absurd (omega arith);
         last = λ z. absurd (omega arith);
         sizes = λ z. absurd (omega arith);
         within = λ z. absurd (omega arith);
       }
+
+  pub ending-large : {t : Bool} → t ≡ small s → t ≡ false → EndingIs s l (record { answer = 5; size = 0; last = x; sizes = y })
+  ending-large e f = ending-not (λ w. rw (sym e ∙ f))
 
   module _ (k : Small s) {t r : Bool} (e : t ≡ small s) (g : t ≡ true) (size : ℕ) (last : Builder) (f : FilterSizes) (es : Whole s → size ≡ finishedSize (optionsOf (s .options)) (countsIn s)) (el : last ≡ lastState s)
       (ef : filterCountIn f ≡ countLast (choiceOf (s .options .filter)) (record { bytes = last .filtered; made = last .made; waiting = last .waiting }))
@@ -136,16 +137,7 @@ module _ (s : Builder) (l : Lengths) (x : Builder) (y : FilterSizes) where
         sym (er ∙ rw (a, b, c, d))
 
     pub ending-full : r ≡ false → EndingIs s l (record { answer = 5; size = 0; last = x; sizes = y })
-    ending-full n =
-        record {
-          kind = inr refl;
-          answer = λ w. rw (small-yes, test-is w, n);
-          size = λ z. absurd (omega arith);
-          small = λ z. absurd (omega arith);
-          last = λ z. absurd (omega arith);
-          sizes = λ z. absurd (omega arith);
-          within = λ z. absurd (omega arith);
-        }
+    ending-full n = ending-not (λ w. rw (small-yes, test-is w, n))
 
     pub ending-ok : r ≡ true → EndingIs s l (record { answer = 0; size = size; last = last; sizes = f })
     ending-ok n =

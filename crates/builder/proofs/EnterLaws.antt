@@ -13,9 +13,9 @@ use Rattle.codec.proofs.PutLaws.{put-length}
 use Rattle.block_builder.specs.declared.block_builder.BlockBuilder.{BlockBuilder}
 use Rattle.block_builder.specs.declared.block_builder.Added.{Added}
 use Rattle.blocks.specs.Block.{Pair, packed, restartsOf}
-use Rattle.blocks.specs.Count.{BlockCount, countOf, countEntry}
+use Rattle.blocks.specs.Count.{BlockCount, countEntry}
 use Rattle.block_builder.specs.Builder as Blocks
-use Rattle.block_builder.specs.Builder.{countIn, builderAfter, builderWith, AddedIs}
+use Rattle.block_builder.specs.Builder.{builderAfter, builderWith, AddedIs}
 use Rattle.block_builder.proofs.BuilderLaws.{stands-more, added-kept, added-is}
 use Rattle.block_builder.proofs.BuilderCode.{next-bytes, next-restarts}
 use Rattle.filters.specs.Filter.{hash}
@@ -33,8 +33,8 @@ use Rattle.builder.specs.State.{countsIn}
 use Rattle.builder.specs.Steps.{Roomy, enteredState}
 use Rattle.builder.specs.Writes.{EnteredRuns}
 use Rattle.builder.proofs.SizeLaws.{count-after, countable-small}
-use Rattle.table.proofs.OverlayLaws.{overlay-behind, overlay-of, overlay-put, overlay-first, overlay-at, overlay-long}
-use Rattle.builder.proofs.CloseLaws.{Counted, lens, open-stands, written-is, bytes-is, restarts-is, waiting-is, fits-addable}
+use Rattle.table.proofs.OverlayLaws.{overlay-behind, overlay-of, overlay-put, overlay-first, overlay-at, overlay-long, Each, each, all-seven}
+use Rattle.builder.proofs.CloseLaws.{Counted, counted-long, counting, lens, open-stands, written-is, filters-are, fits-addable}
 
 -- the building with an addition in the open block
 abbrev pub with : Building → Addition → Building
@@ -116,27 +116,18 @@ module _ {o : Options} {c : Building} {s : Builder} (h : Counted o c s) (a : Add
   filters-with = rw (map-append, wait-append)
 
   module _ (room : ℕ) (r r₁ : Runs) (z : Rooms room r) (f : FitsRoom room (between o (with c a))) (p : r₁ ≡ overlaid (between o c) r) where
-    out-eq : r₁ .out ≡ overlay (between o c .out) (r .out)
-    unfolding overlaid
-    out-eq = ap (λ (x : Runs). x .out) p
-
-    restarts-eq : r₁ .restarts ≡ overlay (between o c .restarts) (r .restarts)
-    unfolding overlaid
-    restarts-eq = ap (λ (x : Runs). x .restarts) p
-
-    hashes-eq : r₁ .hashes ≡ overlay (between o c .hashes) (r .hashes)
-    unfolding overlaid
-    hashes-eq = ap (λ (x : Runs). x .hashes) p
+    abbrev before : Each (between o c) r r₁
+    before = each p
 
     module _ {out′ restarts′ : List ℕ} {x : Added} (g : AddedIs (s .pending) (s .written) (r₁ .out) out′ (r₁ .restarts) restarts′ (keyOf a) (a .value) x) where
       entry-fits : x .fits ≡ true
       unfolding enteredState
       entry-fits =
-          let before = enter-fits room f in
+          let u = enter-fits room f in
           let l = lens h in
           let l′ = lens entered-counted in
-          let lo = overlay-long (between o c .out) (r₁ .out) (r .out) out-eq (omega (arith, before .out, z .out)) in
-          let lr = overlay-long (between o c .restarts) (r₁ .restarts) (r .restarts) restarts-eq (omega (arith, before .restarts, z .restarts)) in
+          let lo = overlay-long (between o c .out) (r₁ .out) (r .out) (before .out) (omega (arith, u .out, z .out)) in
+          let lr = overlay-long (between o c .restarts) (r₁ .restarts) (r .restarts) (before .restarts) (omega (arith, u .restarts, z .restarts)) in
           g .fits
           ∙ fits-addable (s .pending) (s .written) (r₁ .out) (r₁ .restarts) (keyOf a) (a .value)
           (countable-small (s .pending) (keyOf a) (length (a .value)) (y .key) (omega (arith, y .value)) (omega (arith, y .bytes)) (omega (arith, y .restarts)) (y .since) (y .least) (y .most))
@@ -145,15 +136,7 @@ module _ {o : Options} {c : Building} {s : Builder} (h : Counted o c s) (a : Add
           (omega (arith, y .bytes))
 
       after-stands : Blocks.Stands (o .interval) (ps ++ (pair ∷ [])) (x .block) (s .written) out′ restarts′
-      after-stands = stands-more (open-stands h (r .out) (r .restarts) out-eq restarts-eq) pair g entry-fits
-
-      block-bytes : x .block .bytes ≡ length (packed (o .interval) (o .interval) [] (ps ++ (pair ∷ [])))
-      unfolding countIn countOf
-      block-bytes = ap (λ (q : BlockCount). q .bytes) (after-stands .counting .counts)
-
-      block-restarts : x .block .restarts ≡ length (restartsOf (o .interval) (o .interval) [] 0 (ps ++ (pair ∷ [])))
-      unfolding countIn countOf
-      block-restarts = ap (λ (q : BlockCount). q .restarts) (after-stands .counting .counts)
+      after-stands = stands-more (open-stands h (r .out) (r .restarts) (before .out) (before .restarts)) pair g entry-fits
 
       grows : (s .pending .bytes ≤ x .block .bytes) × (s .pending .restarts ≤ x .block .restarts)
       unfolding builderAfter builderWith
@@ -172,15 +155,15 @@ module _ {o : Options} {c : Building} {s : Builder} (h : Counted o c s) (a : Add
           let e′ = packed i i [] (ps ++ (pair ∷ [])) in
           let kept = added-kept g .0 in
           let wi = written-is h in
-          let bi = bytes-is h in
-          let bb = block-bytes in
+          let bi = counted-long (counting h) .0 in
+          let bb = counted-long (after-stands .counting) .0 in
           let gr = grows .0 in
           let lw = length-append w e in
-          let front : take (length w) out′ ≡ w = take-less (length w) (s .written + s .pending .bytes) out′ (r₁ .out) (omega arith) (kept .before) ∙ overlay-first w e (r₁ .out) (r .out) out-eq .0 in
+          let front : take (length w) out′ ≡ w = take-less (length w) (s .written + s .pending .bytes) out′ (r₁ .out) (omega arith) (kept .before) ∙ overlay-first w e (r₁ .out) (r .out) (before .out) .0 in
           let there : part out′ (length w) (length e′) ≡ e′ = rw (wi, bb) at (after-stands .entries) in
           let gap : s .written + x .block .bytes ≡ length (w ++ e) + (length e′ - length e) = omega arith in
           let gap′ : s .written + x .block .bytes ≡ length w + length e′ = omega arith in
-          let back₁ : drop (s .written + x .block .bytes) (r₁ .out) ≡ drop (s .written + x .block .bytes) (r .out) = rw gap (overlay-behind (w ++ e) (r₁ .out) (r .out) out-eq (length e′ - length e)) in
+          let back₁ : drop (s .written + x .block .bytes) (r₁ .out) ≡ drop (s .written + x .block .bytes) (r .out) = rw gap (overlay-behind (w ++ e) (r₁ .out) (r .out) (before .out) (length e′ - length e)) in
           let back : drop (length w + length e′) out′ ≡ drop (length w + length e′) (r .out) = rw gap′ at (kept .after ∙ back₁) in
           overlay-at w e′ out′ (r .out) front there back ∙ ap (λ (q : List Pair). overlay (w ++ packed i i [] q) (r .out)) (sym pairs-with)
 
@@ -191,11 +174,11 @@ module _ {o : Options} {c : Building} {s : Builder} (h : Counted o c s) (a : Add
           let e = restartsOf i i [] 0 ps in
           let e′ = restartsOf i i [] 0 (ps ++ (pair ∷ [])) in
           let kept = added-kept g .1 in
-          let ri = restarts-is h in
-          let br = block-restarts in
+          let ri = counted-long (counting h) .1 in
+          let br = counted-long (after-stands .counting) .1 in
           let gr = grows .1 in
           let gap : x .block .restarts ≡ length e + (length e′ - length e) = omega arith in
-          let back₁ : drop (x .block .restarts) (r₁ .restarts) ≡ drop (x .block .restarts) (r .restarts) = rw gap (overlay-behind e (r₁ .restarts) (r .restarts) restarts-eq (length e′ - length e)) in
+          let back₁ : drop (x .block .restarts) (r₁ .restarts) ≡ drop (x .block .restarts) (r .restarts) = rw gap (overlay-behind e (r₁ .restarts) (r .restarts) (before .restarts) (length e′ - length e)) in
           let back : drop (length e′) restarts′ ≡ drop (length e′) (r .restarts) = rw br at (kept .after ∙ back₁) in
           overlay-of e′ restarts′ (r .restarts) (rw br at (after-stands .marks)) back ∙ ap (λ (q : List Pair). overlay (restartsOf i i [] 0 q) (r .restarts)) (sym pairs-with)
 
@@ -206,7 +189,7 @@ module _ {o : Options} {c : Building} {s : Builder} (h : Counted o c s) (a : Add
         let x = hash (a .word) ∷ [] in
         let q : filtersNow o (with c a) .waiting ≡ w ++ x = ap (λ (k : Filters). k .waiting) filters-with in
         let l : length (w ++ x) ≤ length (r .hashes) = rw q at (hashes-room) in
-        e ∙ overlay-put w x (r₁ .hashes) (r .hashes) (s .waiting) (waiting-is h) hashes-eq l ∙ ap (λ (k : List ℕ). overlay k (r .hashes)) (sym q)
+        e ∙ overlay-put w x (r₁ .hashes) (r .hashes) (s .waiting) (filters-are h .2) (before .hashes) l ∙ ap (λ (k : List ℕ). overlay k (r .hashes)) (sym q)
       where
         hashes-room : length (between o (with c a) .hashes) ≤ length (r .hashes)
         hashes-room = omega (arith, f .hashes, z .hashes)
@@ -214,25 +197,14 @@ module _ {o : Options} {c : Building} {s : Builder} (h : Counted o c s) (a : Add
     -- all seven
     pub entered-all : (r₂ : Runs) → EnteredRuns s (keyOf a) (a .word) (a .value) (r₁ .out) (r₂ .out) (r₁ .restarts) (r₂ .restarts) (r₁ .hashes) (r₂ .hashes)
         → r₂ .index ≡ r₁ .index → r₂ .filters ≡ r₁ .filters → r₂ .indexRestarts ≡ r₁ .indexRestarts → r₂ .offsets ≡ r₁ .offsets → r₂ ≡ overlaid (between o (with c a)) r
-    unfolding overlaid
+    unfolding between held filtersNow wait
     entered-all r₂ g e₁ e₂ e₃ e₄ =
-        let x₀ = entered-out (g .entry) in
-        let x₁ = e₁ ∙ index-eq in
-        let x₂ = e₂ ∙ filters-eq in
-        let x₃ = entered-restarts (g .entry) in
-        let x₄ = e₃ ∙ index-restarts-eq in
-        let x₅ = e₄ ∙ offsets-eq in
-        let x₆ = entered-hashes (g .hash) in
-        λ i. record { out = x₀ i; index = x₁ i; filters = x₂ i; restarts = x₃ i; indexRestarts = x₄ i; offsets = x₅ i; hashes = x₆ i }
-      where
-        index-eq : r₁ .index ≡ overlay (between o (with c a) .index) (r .index)
-        index-eq = unfold overlaid between held in ap (λ (x : Runs). x .index) p
-
-        filters-eq : r₁ .filters ≡ overlay (between o (with c a) .filters) (r .filters)
-        filters-eq = unfold overlaid between held filtersNow wait in ap (λ (x : Runs). x .filters) p
-
-        index-restarts-eq : r₁ .indexRestarts ≡ overlay (between o (with c a) .indexRestarts) (r .indexRestarts)
-        index-restarts-eq = unfold overlaid between held in ap (λ (x : Runs). x .indexRestarts) p
-
-        offsets-eq : r₁ .offsets ≡ overlay (between o (with c a) .offsets) (r .offsets)
-        offsets-eq = unfold overlaid between held filtersNow wait in ap (λ (x : Runs). x .offsets) p
+        all-seven (record {
+          out = entered-out (g .entry);
+          index = e₁ ∙ before .index;
+          filters = e₂ ∙ before .filters;
+          restarts = entered-restarts (g .entry);
+          indexRestarts = e₃ ∙ before .indexRestarts;
+          offsets = e₄ ∙ before .offsets;
+          hashes = entered-hashes (g .hash);
+        })

@@ -20,7 +20,7 @@ use Rattle.block_builder.specs.declared.block_builder.BlockBuilder.{BlockBuilde
 use Rattle.block_builder.specs.declared.block_builder.Added.{Added}
 use Rattle.blocks.specs.Block.{Pair, packed, restartsOf, tailBytes, blockBytes}
 use Rattle.blocks.specs.Count.{BlockCount, countOf, countEntry, countSize}
-use Rattle.blocks.proofs.CountLaws.{count-size}
+use Rattle.blocks.proofs.CountLaws.{entry-restarts, count-size}
 use Rattle.blocks.proofs.BuildLaws.{block-length}
 use Rattle.block_builder.specs.Builder as Blocks
 use Rattle.block_builder.specs.Builder.{countIn, newBuilder, builderAfter, builderWith, nextBytes, AddedIs}
@@ -33,9 +33,9 @@ use Rattle.filter_block.specs.Choice.{choiceOf}
 use Rattle.table.specs.Build.{framed, metaName, footerBytes}
 use Rattle.table.specs.Table.{magic}
 use Rattle.builder.specs.Writes.{tailedOut, sealedOut, Framed}
-use Rattle.builder.proofs.SizeLaws.{entry-restarts, countable-small, name-most}
+use Rattle.builder.proofs.SizeLaws.{countable-small, name-most}
 use Rattle.builder.proofs.WriteLaws.{sealed-is}
-use Rattle.builder.proofs.CloseLaws.{part-put, fits-addable}
+use Rattle.builder.proofs.CloseLaws.{counted-long, part-put, fits-addable}
 
 -- ---- contents and their trailer
 
@@ -54,10 +54,9 @@ framed-is {out} {at} {bs} {e} {f} {size} p q w =
 -- a block whose entries were put at a place
 pub block-framed : {i : ℕ} {ps : List Pair} {b : BlockBuilder} {at : ℕ} {e rs : List ℕ} (out : List ℕ) → Blocks.Stands i ps b at e rs → e ≡ put out at (packed i i [] ps)
     → at + length (blockBytes i ps) + 5 ≤ length out → sealedOut e at b rs ≡ put out at (framed (blockBytes i ps))
-unfolding sealedOut countIn countOf blockBytes
+unfolding sealedOut blockBytes
 block-framed {i} {ps} {b} {at} {e} {rs} out s p h =
-    let n : b .bytes ≡ length (packed i i [] ps) = ap (λ (c : BlockCount). c .bytes) (s .counting .counts) in
-    let t = tail-put (packed i i [] ps) (restartsOf i i [] 0 ps) p n (s .marks) h in
+    let t = tail-put (packed i i [] ps) (restartsOf i i [] 0 ps) p (counted-long (s .counting) .0) (s .marks) h in
     ap (λ (x : List ℕ). put x (at + countSize (countIn b)) (trailer (part x at (countSize (countIn b))))) t
     ∙ framed-put out at (blockBytes i ps) (countSize (countIn b)) (sym (stands-size s)) h
   where
@@ -96,7 +95,7 @@ module _ (i at : ℕ) (out key value : List ℕ) {out₁ rs₁ out₂ out₃ : L
   one-fits h =
       g .fits
       ∙ fits-addable b₀ at out (0 ∷ []) key value (countable-small b₀ key (length value) k (omega arith) (omega arith) (omega arith) (omega arith) l m)
-      (omega (arith, one-size)) (omega (arith, entry-restarts i (countIn b₀) key (length value))) (omega arith)
+      (omega (arith, one-size)) (omega (arith, entry-restarts i (countIn b₀) key (length value) .1)) (omega arith)
 
   one-bytes : x .fits ≡ true → (x .block .bytes ≡ length (nextBytes b₀ key value)) × (x .block .bytes ≡ c .bytes)
   unfolding builderAfter builderWith newBuilder
@@ -124,9 +123,9 @@ module _ (i at : ℕ) (out key value : List ℕ) {out₁ rs₁ out₂ out₃ : L
 
 pub index-framed : {i : ℕ} {ps : List Pair} {b : BlockBuilder} {index rs e : List ℕ} (at : ℕ) (out : List ℕ) → Blocks.Stands i ps b 0 index rs → e ≡ put out at (take (b .bytes) index)
     → {f : List ℕ} → f ≡ sealedOut e at b rs → Framed out at (blockBytes i ps) f
-unfolding part countIn countOf
+unfolding part
 index-framed {i} {ps} {b} {index} {rs} {e} at out s p q =
-    let n : b .bytes ≡ length (packed i i [] ps) = ap (λ (c : BlockCount). c .bytes) (s .counting .counts) in
+    let n = counted-long (s .counting) .0 in
     let z : e ≡ put out at (packed i i [] ps) = p ∙ ap (put out at) (s .entries) in
     record {
       framed = λ h.

@@ -4,13 +4,12 @@ use mathlib.Core.Path.{_≡_, refl, sym, ap, ap₂, _∙_}
 use mathlib.Core.Logic.{_⊎_, inl, inr}
 use mathlib.Core.List.{List, [], _∷_, _++_, map, append-nil}
 use mathlib.Core.Bool.{Bool, true, not}
-use native.Mathlib.Nat.{zero-add}
 use native.Mathlib.Omega.{arith}
 use lib.Dec.{eqb}
-use lib.ListN.{length, take, length-append}
+use lib.ListN.{length, take}
 use Rattle.codec.proofs.Lists.{no-length}
 use borrow.Author.Tests.{le-leb, eq-eqb, ne-eqb}
-use Rattle.codec.proofs.Prelude.{split}
+use Rattle.codec.proofs.Prelude.{apart}
 use Rattle.blocks.specs.Block.{packed, restartsOf}
 use Rattle.blocks.specs.Count.{BlockCount, countOf}
 use Rattle.block_builder.specs.Builder.{countIn}
@@ -18,8 +17,8 @@ use Rattle.blocks.proofs.CountLaws.{count-zero}
 use Rattle.filters.specs.FilterBlock.{Filtering, Filters, noFilters, makeFilter, lastFilter, madeBytes, starts, filterBlockOf, filterBlockBytes}
 use Rattle.filters.specs.FilterCount.{FilterCount, filterCountOf, countLast}
 use Rattle.filter_block.specs.Choice.{choiceOf}
-use Rattle.filter_block.specs.Make.{groupsUpTo, roomFor, MadeFilters}
-use Rattle.filters.proofs.FilterBlockLaws.{made-append, starts-length}
+use Rattle.filter_block.specs.Make.{groupsUpTo, MadeFilters}
+use Rattle.filters.proofs.FilterBlockLaws.{starts-length, last-of}
 use Rattle.filters.proofs.FilterCountLaws.{count-last, last-kept}
 use Rattle.table.specs.Checked.{pass}
 use Rattle.table.specs.Options.{Options, indexInterval, Addition}
@@ -39,12 +38,11 @@ use Rattle.builder.specs.Steps.{small, Small, filterCountIn, filtersIn, 
 use Rattle.builder.specs.Writes.{ClosedOut, ClosedIndex, ClosedFilters, LastFilters, filterBlock, metaBlock, EndFits, EndPut}
 use Rattle.builder.specs.Answers.{overState, FinishedIs}
 use Rattle.builder.proofs.SizeLaws as Size
-use Rattle.builder.proofs.DecideLaws.{sane-is, last-short}
-use Rattle.builder.proofs.AddLaws.{early-zero, early-traced}
-use Rattle.table.proofs.OverlayLaws.{overlay-none, overlay-front, overlay-put, overlay-long}
+use Rattle.builder.proofs.DecideLaws.{sane-is, last-short, early-sane}
+use Rattle.builder.proofs.AddLaws.{early-zero}
+use Rattle.table.proofs.OverlayLaws.{overlay-none, overlay-front, Each, each, all-seven}
 use Rattle.filter_block.proofs.MakeLaws.{groups-some}
-use Rattle.builder.proofs.GroupLaws.{starts-append}
-use Rattle.builder.proofs.CloseLaws.{Counted, ClosedRuns, closed-kept, indexKey, index-key-closed, lens, counting, index-stands, filters-is, filtered-is, made-is, waiting-is, written-is, options-filter, options-interval, made-room, closed-counted, waits-close, closed-all}
+use Rattle.builder.proofs.CloseLaws.{Counted, ClosedRuns, closed-kept, indexKey, index-key-closed, lens, counting, index-stands, filters-is, filters-are, written-is, options-filter, options-interval, made-overlay, closed-counted, waits-close, closed-all}
 use Rattle.builder.proofs.TraceLaws.{stands-counted, trace-began, trace-fits, trace-small, trace-is-small, trace-sane, last-is}
 
 -- ---- what the last writes leave in the runs
@@ -64,17 +62,6 @@ pub record EndRuns (s last : Builder) (f : FilterSizes) (r r′ : Runs) : Type 0
   pub indexRestarts : r′ .indexRestarts ≡ mid .indexRestarts
   pub restarts : r′ .restarts ≡ r .restarts
   pub hashes : r′ .hashes ≡ r .hashes
-
-last-no : (f : Filters) → f .waiting ≡ [] → lastFilter f ≡ f
-unfolding lastFilter
-last-no f e = cc
-
-last-yes : (f : Filters) → (length (f .waiting) ≡ 0 → ⊥) → lastFilter f ≡ makeFilter f
-last-yes f n = go (f .waiting) refl
-  where
-    go : (w : List ℕ) → f .waiting ≡ w → lastFilter f ≡ makeFilter f
-    go [] e = absurd (n (ap length e))
-    go (x ∷ w) e = unfold lastFilter in cc
 
 module _ (o : Options) (more : List Addition) (b : Building) (s : Builder) (r : Runs) (e : acceptAll o (roomOf (length (r .out))) begin more ≡ pass b) (t : Stands o b s r) where
   abbrev room : ℕ
@@ -109,8 +96,7 @@ module _ (o : Options) (more : List Addition) (b : Building) (s : Builder) (r : 
       go (x ∷ xs) q =
           let n : s .pending .restarts ≡ 0 → ⊥ = λ z.
           let y = count-zero (o .interval) (map pairOf (b .openBlock)) .0 (sym restarts ∙ z) in
-          let u : _≡_ {A = ℕ} 0 1 = cc in
-          omega arith in
+          apart cc in
           g (Step.last-some b x xs q ∙ ap (λ (k : List ℕ). close k b) (sym (last-is h))) (sym (Size.last-some s n)) n
 
   pub last-counted : Counted o c mid
@@ -180,29 +166,8 @@ module _ (o : Options) (more : List Addition) (b : Building) (s : Builder) (r : 
         let i : indexKey mid ≡ lastOf s = ap indexKey y ∙ index-key-closed s (lastOf s) short (h .whole .indexed) in
         rw x (closed-all h is-small (lastOf s) short room r r₁ rooms (trace-fits o more b s r e t .0) (rw x at mid-fits) (t .runs) refl (rw i at (g .some z))))
 
-    eq-out : r₁ .out ≡ overlay (written o (c .closed)) (r .out)
-    unfolding overlaid
-    eq-out = rw out-written at (ap (λ (x : Runs). x .out) mid-runs)
-
-    eq-index : r₁ .index ≡ overlay (between o c .index) (r .index)
-    unfolding overlaid
-    eq-index = ap (λ (x : Runs). x .index) mid-runs
-
-    eq-index-restarts : r₁ .indexRestarts ≡ overlay (between o c .indexRestarts) (r .indexRestarts)
-    unfolding overlaid
-    eq-index-restarts = ap (λ (x : Runs). x .indexRestarts) mid-runs
-
-    eq-filters : r₁ .filters ≡ overlay (madeBytes (o .filtering) (fs .made)) (r .filters)
-    unfolding overlaid between held
-    eq-filters = ap (λ (x : Runs). x .filters) mid-runs
-
-    eq-offsets : r₁ .offsets ≡ overlay (starts (o .filtering) 0 (fs .made)) (r .offsets)
-    unfolding overlaid between held
-    eq-offsets = ap (λ (x : Runs). x .offsets) mid-runs
-
-    eq-hashes : r₁ .hashes ≡ overlay (fs .waiting) (r .hashes)
-    unfolding overlaid between held
-    eq-hashes = ap (λ (x : Runs). x .hashes) mid-runs
+    abbrev mids : Each (between o c) r r₁
+    mids = each mid-runs
 
     -- the last filter
     module _ (f′ q′ : List ℕ) (k : LastFilters mid (r₁ .filters) f′ (r₁ .offsets) q′ (r₁ .hashes)) where
@@ -213,52 +178,23 @@ module _ (o : Options) (more : List Addition) (b : Building) (s : Builder) (r : 
       mid-filter = options-filter mid o (last-counted .options)
 
       pub last-runs : (f′ ≡ overlay (madeBytes ch (lastFilter fs .made)) (r .filters)) × (q′ ≡ overlay (starts ch 0 (lastFilter fs .made)) (r .offsets))
-      last-runs = split 0 (mid .waiting) some none
+      unfolding between held makeFilter
+      last-runs = last-of Left fs none some (end-fits .0) (end-fits .1)
         where
-          none : mid .waiting ≤ 0 → (f′ ≡ overlay (madeBytes ch (lastFilter fs .made)) (r .filters)) × (q′ ≡ overlay (starts ch 0 (lastFilter fs .made)) (r .offsets))
-          none l =
-              let z : mid .waiting ≡ 0 = omega arith in
-              let w = last-no fs (no-length (fs .waiting) (sym (waiting-is last-counted) ∙ z)) in
-              let p = k .none z in
-              rw w (p .0 ∙ eq-filters, p .1 ∙ eq-offsets)
+          Left : Filters → Type 0
+          Left g = length (madeBytes ch (g .made)) ≤ room → length (starts ch 0 (g .made)) ≤ room / 4 → (f′ ≡ overlay (madeBytes ch (g .made)) (r .filters)) × (q′ ≡ overlay (starts ch 0 (g .made)) (r .offsets))
 
-          some : 0 < mid .waiting → (f′ ≡ overlay (madeBytes ch (lastFilter fs .made)) (r .filters)) × (q′ ≡ overlay (starts ch 0 (lastFilter fs .made)) (r .offsets))
-          some l =
-              let ms = fs .made in
-              let gs = fs .waiting ∷ [] in
-              let wi = waiting-is last-counted in
-              let mi = made-is last-counted in
-              let bi = filtered-is last-counted in
-              let w : lastFilter fs .made ≡ ms ++ gs = made-of (last-yes fs (λ z. omega arith)) in
-              let tk : take (mid .waiting) (r₁ .hashes) ≡ fs .waiting = rw wi (overlay-front (fs .waiting) (r₁ .hashes) (r .hashes) eq-hashes) in
-              let gg : groupsUpTo (mid .made) (mid .made + 1) (take (mid .waiting) (r₁ .hashes)) ≡ gs = one-group tk in
-              let x : MadeFilters ch gs (mid .filtered) (mid .made) (k .made) (r₁ .filters) f′ (r₁ .offsets) q′ = rw (mid-filter, gg) at (k .some (λ z. omega arith)) in
-              let mb : madeBytes ch (lastFilter fs .made) ≡ madeBytes ch ms ++ madeBytes ch gs = ap (madeBytes ch) w ∙ made-append ch ms gs in
-              let ob : starts ch 0 (lastFilter fs .made) ≡ starts ch 0 ms ++ starts ch (mid .filtered) gs =
-              ap (starts ch 0) w ∙ starts-append ch 0 ms gs ∙ ap (λ (n : ℕ). starts ch 0 ms ++ starts ch n gs) (zero-add (length (madeBytes ch ms)) ∙ sym bi) in
-              let lm : length (madeBytes ch ms ++ madeBytes ch gs) ≤ room = rw mb at (end-fits .0) in
-              let lo : length (starts ch 0 ms ++ starts ch (mid .filtered) gs) ≤ room / 4 = rw ob at (end-fits .1) in
-              let nm = length-append (madeBytes ch ms) (madeBytes ch gs) in
-              let no′ = length-append (starts ch 0 ms) (starts ch (mid .filtered) gs) in
-              let sl = starts-length ch 0 ms in
-              let zf = rooms .filters in
-              let zo = rooms .offsets in
-              let zl = rooms .limit in
-              let lf = overlay-long (madeBytes ch ms) (r₁ .filters) (r .filters) eq-filters (omega arith) in
-              let lq = overlay-long (starts ch 0 ms) (r₁ .offsets) (r .offsets) eq-offsets (omega arith) in
-              let ok : roomFor ch (mid .filtered) gs (r₁ .filters) (r₁ .offsets) (mid .made) ≡ true = made-room ch gs (mid .filtered) (mid .made) (r₁ .filters) (r₁ .offsets) (omega arith) (omega arith) (omega arith) in
-              let nf : mid .made ≡ length (starts ch 0 ms) = omega arith in (
-                x .filters ∙ rw ok (overlay-put (madeBytes ch ms) (madeBytes ch gs) (r₁ .filters) (r .filters) (mid .filtered) bi eq-filters (omega arith) ∙ ap (λ (z : List ℕ). overlay z (r .filters)) (sym mb)),
-                x .offsets ∙ rw ok (overlay-put (starts ch 0 ms) (starts ch (mid .filtered) gs) (r₁ .offsets) (r .offsets) (mid .made) nf eq-offsets (omega arith) ∙ ap (λ (z : List ℕ). overlay z (r .offsets)) (sym ob)),
-              )
-            where
-              made-of : lastFilter fs ≡ makeFilter fs → lastFilter fs .made ≡ fs .made ++ (fs .waiting ∷ [])
-              made-of q = ap (λ (z : Filters). z .made) q ∙ (unfold makeFilter in refl)
+          none : fs .waiting ≡ [] → Left fs
+          none e lf lq = let p = k .none (filters-are last-counted .2 ∙ ap length e) in (p .0 ∙ mids .filters, p .1 ∙ mids .offsets)
 
-              one-group : take (mid .waiting) (r₁ .hashes) ≡ fs .waiting → groupsUpTo (mid .made) (mid .made + 1) (take (mid .waiting) (r₁ .hashes)) ≡ fs .waiting ∷ []
-              one-group q =
-                  let n : mid .made + 1 - mid .made - 1 ≡ 0 = omega arith in
-                  groups-some (mid .made) (mid .made + 1) (take (mid .waiting) (r₁ .hashes)) (omega arith) ∙ rw (q, n)
+          some : (x : ℕ) (xs : List ℕ) → fs .waiting ≡ x ∷ xs → Left (makeFilter fs)
+          some x xs e lf lq =
+              let n = filters-are last-counted in
+              let tk : take (mid .waiting) (r₁ .hashes) ≡ fs .waiting = rw (n .2) (overlay-front (fs .waiting) (r₁ .hashes) (r .hashes) (mids .hashes)) in
+              let one : mid .made + 1 - mid .made - 1 ≡ 0 = omega arith in
+              let gg : groupsUpTo (mid .made) (mid .made + 1) (take (mid .waiting) (r₁ .hashes)) ≡ fs .waiting ∷ [] = groups-some (mid .made) (mid .made + 1) (take (mid .waiting) (r₁ .hashes)) (omega arith) ∙ rw (tk, one) in
+              let y : MadeFilters ch (fs .waiting ∷ []) (mid .filtered) (mid .made) (k .made) (r₁ .filters) f′ (r₁ .offsets) q′ = rw (mid-filter, gg) at (k .some (λ z. omega (arith, ap length e))) in
+              made-overlay ch (fs .made) (fs .waiting ∷ []) (r .filters) (r .offsets) y (n .0) (n .1) (mids .filters) (mids .offsets) (omega (arith, rooms .filters)) (omega (arith, rooms .offsets)) (omega (arith, rooms .limit))
 
       -- the table
       module _ (f : FilterSizes) (ef : filterCountIn f ≡ lastFilters s) (out′ : List ℕ) (k₂ : EndPut mid f f′ q′ (r₁ .index) (r₁ .indexRestarts) (r₁ .out) out′) where
@@ -311,7 +247,7 @@ module _ (o : Options) (more : List Addition) (b : Building) (s : Builder) (r : 
         unfolding indexBytes
         end-out =
             let l : length (whole (filterBlock f f′ q′) (metaBlock mid (length (filterBlock f f′ q′)))) ≤ length (r .out) = rw whole-is (omega (arith, fin-out, rooms .out)) in
-            k₂ .wrote (least-most .0) (least-most .1) (indexInterval o) (indexPairs o 0 cs) (index-stands last-counted (r .index) (r .indexRestarts) eq-index eq-index-restarts) (written o cs) (r .out) eq-out
+            k₂ .wrote (least-most .0) (least-most .1) (indexInterval o) (indexPairs o 0 cs) (index-stands last-counted (r .index) (r .indexRestarts) (mids .index) (mids .indexRestarts)) (written o cs) (r .out) (rw out-written at (mids .out))
             (sym (written-is last-counted)) l
             ∙ ap (λ (x : List ℕ). overlay x (r .out)) whole-is
 
@@ -323,21 +259,25 @@ module _ (o : Options) (more : List Addition) (b : Building) (s : Builder) (r : 
       → r′ .filters ≡ overlay (madeBytes (o .filtering) (lastFilter fs .made)) (r .filters) → r′ .restarts ≡ r .restarts
       → r′ .indexRestarts ≡ overlay (between o c .indexRestarts) (r .indexRestarts) → r′ .offsets ≡ overlay (starts (o .filtering) 0 (lastFilter fs .made)) (r .offsets) → r′ .hashes ≡ r .hashes
       → r′ ≡ overlaid (finished o b) r
-  unfolding overlaid finished between held restartsIn restartsOf
+  unfolding finished between held restartsIn restartsOf
   fin-eq r′ x₀ x₁ x₂ x₃ x₄ x₅ x₆ =
       let z : lastFilter (filtersOf o 0 noFilters (c .closed)) ≡ lastFilter fs = ap lastFilter end-filters in
-      let y₂ = x₂ ∙ ap (λ (q : Filters). overlay (madeBytes (o .filtering) (q .made)) (r .filters)) (sym z) in
-      let y₃ = x₃ ∙ overlay-none (r .restarts) ∙ ap (λ (xs : List Addition). overlay (restartsIn (o .interval) (map pairOf xs)) (r .restarts)) (sym (no-open o b)) in
-      let y₅ = x₅ ∙ ap (λ (q : Filters). overlay (starts (o .filtering) 0 (q .made)) (r .offsets)) (sym z) in
-      let y₆ = x₆ ∙ overlay-none (r .hashes) ∙ ap (λ (w : List ℕ). overlay w (r .hashes)) (sym waits-none) ∙ ap (λ (q : Filters). overlay (q .waiting) (r .hashes)) (sym z) in
-      λ i. record { out = x₀ i; index = x₁ i; filters = y₂ i; restarts = y₃ i; indexRestarts = x₄ i; offsets = y₅ i; hashes = y₆ i }
+      all-seven (record {
+        out = x₀;
+        index = x₁;
+        filters = x₂ ∙ ap (λ (q : Filters). overlay (madeBytes (o .filtering) (q .made)) (r .filters)) (sym z);
+        restarts = x₃ ∙ overlay-none (r .restarts) ∙ ap (λ (xs : List Addition). overlay (restartsIn (o .interval) (map pairOf xs)) (r .restarts)) (sym (no-open o b));
+        indexRestarts = x₄;
+        offsets = x₅ ∙ ap (λ (q : Filters). overlay (starts (o .filtering) 0 (q .made)) (r .offsets)) (sym z);
+        hashes = x₆ ∙ overlay-none (r .hashes) ∙ ap (λ (w : List ℕ). overlay w (r .hashes)) (sym waits-none) ∙ ap (λ (q : Filters). overlay (q .waiting) (r .hashes)) (sym z);
+      })
 
   pub end-runs : (f : FilterSizes) → filterCountIn f ≡ lastFilters s → (r′ : Runs) → EndRuns s mid f r r′ → r′ ≡ overlaid (finished o b) r
   end-runs f ef r′ g =
       let m = g .mid in
       let k = g .closed in
       let lr = last-runs m k (r′ .filters) (r′ .offsets) (g .filters) in
-      fin-eq r′ (end-out m k (r′ .filters) (r′ .offsets) (g .filters) f ef (r′ .out) (g .out)) (g .index ∙ eq-index m k) (lr .0) (g .restarts) (g .indexRestarts ∙ eq-index-restarts m k) (lr .1) (g .hashes)
+      fin-eq r′ (end-out m k (r′ .filters) (r′ .offsets) (g .filters) f ef (r′ .out) (g .out)) (g .index ∙ mids m k .index) (lr .0) (g .restarts) (g .indexRestarts ∙ mids m k .indexRestarts) (lr .1) (g .hashes)
 
   -- and its size
   pub end-size : finishedSize (optionsOf (s .options)) (countsIn s) ≡ length (Build.finish o b)
@@ -367,7 +307,7 @@ module _ (o : Options) (more : List Addition) (b : Building) (s : Builder) (r : 
 
 module _ (s : Builder) (r : Runs) {n : ℕ} (q : n ≡ earlyOf s (lengthsOf r) true) where
   early-none : (o : Options) (more : List Addition) (b : Building) → acceptAll o (roomOf (length (r .out))) begin more ≡ pass b → Stands o b s r → n ≡ 0
-  early-none o more b e t = q ∙ early-traced s (lengthsOf r) true (t .going) (trace-sane o more b s r e t)
+  early-none o more b e t = q ∙ early-sane s (lengthsOf r) true (t .going) (trace-sane o more b s r e t)
 
   pub finish-refused : (n ≡ 0 → ⊥) → FinishedIs s r r (record { answer = OutcomeCase.Refused n; state = s })
   finish-refused z =
@@ -375,7 +315,7 @@ module _ (s : Builder) (r : Runs) {n : ℕ} (q : n ≡ earlyOf s (lengthsOf r) t
         early = λ x. ap OutcomeCase.Refused q;
         later = λ x. absurd (z (q ∙ x));
         refused = λ m x. (refl, refl);
-        over = λ m x. absurd (let u : _≡_ {A = ℕ} 0 1 = cc in omega arith);
+        over = λ m x. apart cc;
         answer = λ o more b e t. absurd (z (early-none o more b e t));
         runs = λ o more b e t. absurd (z (early-none o more b e t));
       }
@@ -390,7 +330,7 @@ module _ (s : Builder) (r : Runs) {n : ℕ} (q : n ≡ earlyOf s (lengthsOf r) t
           early = λ x. absurd (x (sym q ∙ z));
           later = λ x m y. let v : m ≡ p .answer = cc in v ∙ five (g .kind);
           refused = λ m x. (refl, refl);
-          over = λ m x. absurd (let u : _≡_ {A = ℕ} 0 1 = cc in omega arith);
+          over = λ m x. apart cc;
           answer = λ o more b e t. absurd (k (end-decides o more b s r e t g .0));
           runs = λ o more b e t. absurd (k (end-decides o more b s r e t g .0));
         }
@@ -448,8 +388,8 @@ module _ (s : Builder) (r : Runs) {n : ℕ} (q : n ≡ earlyOf s (lengthsOf r) t
         finish-done {x} ex =
             record {
               early = λ y. absurd (y (sym q ∙ z));
-              later = λ y m u. absurd (let v : _≡_ {A = ℕ} 0 1 = cc in omega arith);
-              refused = λ m u. absurd (let v : _≡_ {A = ℕ} 0 1 = cc in omega arith);
+              later = λ y m u. apart cc;
+              refused = λ m u. apart cc;
               over = λ m u. ex;
               answer = λ o more b e t. ap OutcomeCase.Size (end-decides o more b s r e t g .1);
               runs = λ o more b e t. end-runs o more b s r e t (p .sizes) (g .sizes k) r′ ended;

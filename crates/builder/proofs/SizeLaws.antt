@@ -4,11 +4,10 @@ use mathlib.Core.Path.{_≡_, refl, sym, ap, ap₂, _∙_}
 use mathlib.Core.List.{List}
 use mathlib.Core.Bool.{true}
 use native.Mathlib.Nat.{mul-le-mul-left, zero-add}
-use native.Mathlib.Numerals.{add-one}
 use native.Mathlib.Omega.{arith}
 use lib.Dec.{eqb, leb, ltb}
 use lib.ListN.{length, take}
-use borrow.Author.Tests.{le-leb, lt-ltb, le-ltb, leb-true, eqb-false, eqb-true}
+use borrow.Author.Tests.{le-leb, leb-true, eqb-false, eqb-true}
 use Rattle.codec.specs.Varint.{varintBytes, varintBytesF}
 use Rattle.codec.specs.Put.{put}
 use Rattle.codec.proofs.Prelude.{test, split, both}
@@ -17,23 +16,23 @@ use Rattle.codec.proofs.VarintLaws.{varint-bytes-length}
 use Rattle.block_builder.specs.declared.block_builder.BlockBuilder.{BlockBuilder}
 use Rattle.block_builder.specs.declared.block_builder.Counted.{Counted}
 use Rattle.blocks.specs.Block.{since, sharing}
-use Rattle.codec.specs.Limits.{within}
 use Rattle.blocks.specs.Formed.{bloomName}
 use Rattle.blocks.specs.Count.{BlockCount, noEntries, varintSize, entrySize, countEntry, countSize}
 use Rattle.block_builder.specs.Builder.{countIn, newBuilder, builderWith, builderAfter, countable, CountedIs}
 use Rattle.block_builder.proofs.BuilderLaws.{counting-none}
 use Rattle.block_builder.proofs.BuilderCode.{fits-all}
-use Rattle.blocks.proofs.CountLaws.{count-none}
+use Rattle.blocks.proofs.CountLaws.{count-none, entry-restarts}
 use Rattle.filter_block.specs.declared.filter.Filter as FilterEnum
 use Rattle.filter_block.specs.declared.filter.Filter.the-variants as FilterCase
 use Rattle.filters.specs.Filter.{filterSize}
 use Rattle.filters.specs.FilterBlock.{Filtering, unfiltered, bitsPerKey}
 use Rattle.filters.specs.FilterCount.{FilterCount, filterBytesOf, countMade, countUpTo, countLast, filterBlockSize}
+use Rattle.filters.proofs.FilterCountLaws.{made-over, made-enough, none-waits, some-wait}
 use Rattle.filter_block.specs.Choice.{choiceOf}
 use Rattle.table.specs.Options.{Options, indexInterval, optionsFit, filteringFits, tableLimit}
 use Rattle.table.specs.Build.{metaName}
 use Rattle.table.specs.Counts.{handleSize, countClose, countCloseLast, metaSize, finishedSize}
-use Rattle.table.proofs.AcceptLaws.{within-parts}
+use Rattle.table.proofs.AcceptLaws.{within-parts, option-parts}
 use Rattle.builder.specs.declared.table_builder.Builder.{Builder}
 use Rattle.builder.specs.declared.table_builder.FilterSizes.{FilterSizes}
 use Rattle.builder.specs.State.{optionsOf, countsIn}
@@ -45,16 +44,11 @@ pub since-most : (i n : ℕ) → 1 ≤ i → n ≤ i → since i n ≤ i
 unfolding since
 since-most i n h k = test (eqb n i) (λ t. rw (t, since) h) (λ t. let ne = eqb-false n i t in rw (t, since) (split n i (λ l. l) (λ g. absurd (ne (omega arith)))))
 
-module _ (i : ℕ) (b : BlockCount) (key : List ℕ) (v : ℕ) where
-  entry-bytes : countEntry i b key v .bytes ≤ b .bytes + v + length key + 30
-  unfolding countEntry entrySize
-  entry-bytes =
-      let s = sharing i (b .since) (b .last) key in
-      omega (arith, varint-bytes-length s, varint-bytes-length (length key - s), varint-bytes-length v)
-
-  pub entry-restarts : countEntry i b key v .restarts ≤ b .restarts + 1
-  unfolding countEntry
-  entry-restarts = test (eqb (b .since) i) (λ t. rw (t, countEntry) (omega arith)) (λ t. rw (t, countEntry) (omega arith))
+entry-bytes : (i : ℕ) (b : BlockCount) (key : List ℕ) (v : ℕ) → countEntry i b key v .bytes ≤ b .bytes + v + length key + 30
+unfolding countEntry entrySize
+entry-bytes i b key v =
+    let s = sharing i (b .since) (b .last) key in
+    omega (arith, varint-bytes-length s, varint-bytes-length (length key - s), varint-bytes-length v)
 
 -- it can be counted
 pub countable-small : (b : BlockBuilder) (key : List ℕ) (v : ℕ) → length key ≤ 1032 → v ≤ 2 ^ 40 → b .bytes ≤ 2 ^ 40 → b .restarts ≤ 2 ^ 40 → b .since ≤ b .interval → 1 ≤ b .interval
@@ -63,7 +57,7 @@ unfolding countable countIn
 countable-small b key v k h x y s l m =
     let e = countEntry (b .interval) (countIn b) key v in
     let z : e .since ≤ b .interval = unfold countEntry in since-most (b .interval) (b .since) l s in
-    rw (le-leb (length key) 1032 k) (fits-all e (omega (arith, entry-bytes (b .interval) (countIn b) key v)) (omega (arith, entry-restarts (b .interval) (countIn b) key v)) (omega arith))
+    rw (le-leb (length key) 1032 k) (fits-all e (omega (arith, entry-bytes (b .interval) (countIn b) key v)) (omega (arith, entry-restarts (b .interval) (countIn b) key v .1)) (omega arith))
 
 -- and then it is
 pub counted-is : {b : BlockBuilder} {key : List ℕ} {v : ℕ} {r : Counted} → CountedIs b key v r → countable b key v ≡ true → r .block ≡ builderAfter b key v
@@ -87,42 +81,15 @@ filter-most (bitsPerKey b) (suc n) h =
     let m : suc n * b ≤ suc n * 64 = mul-le-mul-left (suc n) (within-parts 1 64 b h .1) in
     test (ltb (suc n * b) 64) (λ t. rw (t, filterSize) (omega arith)) (λ t. rw (t, filterSize) (omega arith))
 
-module _ (c : Filtering) (n : ℕ) (f : FilterCount) where
-  pub made-no : n ≤ f .made → f ≡ countMade c n f
-  unfolding countMade
-  made-no h = rw (le-ltb (f .made) n h, countMade)
+made-most : (c : Filtering) (n : ℕ) (f : FilterCount)
+    → (countMade c n f .bytes ≤ f .bytes + filterBytesOf c (f .waiting)) × (countMade c n f .made ≤ f .made + n) × (countMade c n f .waiting ≤ f .waiting)
+made-most c n f = split (f .made) n (λ h. rw (made-over c n f h) (omega arith)) (λ h. rw (made-enough c n f h) (omega arith))
 
-  pub made-yes : f .made < n → record { bytes = f .bytes + filterBytesOf c (f .waiting); made = n; waiting = 0 } ≡ countMade c n f
-  unfolding countMade
-  made-yes h = rw (lt-ltb (f .made) n h, countMade)
-
-  made-bytes : countMade c n f .bytes ≤ f .bytes + filterBytesOf c (f .waiting)
-  made-bytes = split (f .made) n (λ h. rw (← made-yes h) (omega arith)) (λ h. rw (← made-no h) (omega arith))
-
-  made-made : countMade c n f .made ≤ f .made + n
-  made-made = split (f .made) n (λ h. rw (← made-yes h) (omega arith)) (λ h. rw (← made-no h) (omega arith))
-
-  made-waiting : countMade c n f .waiting ≤ f .waiting
-  made-waiting = split (f .made) n (λ h. rw (← made-yes h) (omega arith)) (λ h. rw (← made-no h) (omega arith))
-
-module _ (c : Filtering) (f : FilterCount) where
-  pub last-no : f .waiting ≡ 0 → f ≡ countLast c f
-  unfolding countLast
-  last-no e = cc
-
-  pub last-yes : (f .waiting ≡ 0 → ⊥) → countMade c (f .made + 1) f ≡ countLast c f
-  unfolding countLast
-  last-yes ne = go (f .waiting) refl
-    where
-      go : (n : ℕ) → f .waiting ≡ n → countMade c (f .made + 1) f ≡ countLast c f
-      go zero e = absurd (ne e)
-      go (suc n) e = rw (add-one (f .made)) (cc)
-
-  last-bytes : countLast c f .bytes ≤ f .bytes + filterBytesOf c (f .waiting)
-  last-bytes = split 0 (f .waiting) (λ h. rw (← last-yes (λ e. omega arith)) (made-bytes c (f .made + 1) f)) (λ h. rw (← last-no (omega arith)) (omega arith))
-
-  last-many : countLast c f .made ≤ 2 * f .made + 1
-  last-many = split 0 (f .waiting) (λ h. rw (← last-yes (λ e. omega arith)) (omega (arith, made-made c (f .made + 1) f))) (λ h. rw (← last-no (omega arith)) (omega arith))
+last-most : (c : Filtering) (f : FilterCount) → (countLast c f .bytes ≤ f .bytes + filterBytesOf c (f .waiting)) × (countLast c f .made ≤ 2 * f .made + 1)
+last-most c f =
+    split 0 (f .waiting)
+    (λ h. rw (some-wait c f (λ e. omega arith)) (let m = made-most c (f .made + 1) f in omega arith))
+    (λ h. rw (none-waits c f (omega arith)) (omega arith))
 
 -- the code's own sum
 pub more-bytes : (c : Filtering) (bytes n r : ℕ) → bytes + filterBytesOf c n < 2 ^ 63 → r ≡ min (filterBytesOf c n) (2 ^ 63 + 1) → r ≡ filterBytesOf c n
@@ -244,13 +211,14 @@ module _ (s : Builder) (h : Small s) where
       let v = varintSize (s .written) + varintSize (openSize s) in
       let w : v ≤ 20 = omega (arith, varint-bytes-length (s .written), varint-bytes-length (openSize s)) in
       let x = size-most s h in
+      let m = made-most c n f in
       record {
         written = omega (arith, h .written);
         indexBytes = omega (arith, h .indexBytes, entry-bytes (s .indexed .interval) (countIn (s .indexed)) key v);
-        indexRestarts = omega (arith, h .indexRestarts, entry-restarts (s .indexed .interval) (countIn (s .indexed)) key v);
-        filtered = omega (arith, made-bytes c n f, filter-room s h);
-        made = omega (arith, h .made, h .written, made-made c n f);
-        waiting = omega (arith, h .waiting, made-waiting c n f);
+        indexRestarts = omega (arith, h .indexRestarts, entry-restarts (s .indexed .interval) (countIn (s .indexed)) key v .1);
+        filtered = omega (arith, m .0, filter-room s h);
+        made = omega (arith, h .made, h .written, m .1);
+        waiting = omega (arith, h .waiting, m .2);
       }
 
   pub bounded-last : length (lastOf s) ≤ 1032 → {d : Builder} → d ≡ lastState s → Bounded d
@@ -335,8 +303,8 @@ module _ (s : Builder) (h : Small s) where
       let q : FilterCount = record { bytes = d .filtered; made = d .made; waiting = d .waiting } in
       let b = bounded-last s h k e in
       let r = last-room k d e in
-      let x : f .bytes ≤ 2 ^ 31 = omega (arith, ap (λ (z : FilterCount). z .bytes) ef, last-bytes c q) in
-      let y : f .made ≤ 2 ^ 40 = omega (arith, ap (λ (z : FilterCount). z .made) ef, last-many c q) in
+      let x : f .bytes ≤ 2 ^ 31 = omega (arith, ap (λ (z : FilterCount). z .bytes) ef, last-most c q .0) in
+      let y : f .made ≤ 2 ^ 40 = omega (arith, ap (λ (z : FilterCount). z .made) ef, last-most c q .1) in
       (omega arith, omega arith, omega (arith, b .written), omega (arith, b .indexBytes, b .indexRestarts))
 
 -- the name and the metaindex's size
@@ -363,7 +331,7 @@ name-some f b e = rw e
 -- ---- what the tests say
 
 pub small-is : (s : Builder) → optionsFit (optionsOf (s .options)) ≡ true → small s ≡ true → Small s
-unfolding small optionsFit optionsOf
+unfolding small optionsOf
 small-is s f e =
     let x1 = both (eqb (s .pending .interval) (s .options .interval)) _ e in
     let x2 = both (eqb (s .indexed .interval) (s .options .interval)) _ (x1 .1) in
@@ -376,15 +344,13 @@ small-is s f e =
     let x9 = both (leb (s .indexed .restarts) tableLimit) _ (x8 .1) in
     let xa = both (leb (s .filtered) tableLimit) _ (x9 .1) in
     let xb = both (leb (s .made) tableLimit) _ (xa .1) in
-    let y1 = both (within 1 1024 (s .options .interval)) _ f in
-    let y2 = both (within 8 65536 (s .options .«block_size»)) _ (y1 .1) in
-    let w = within-parts 1 1024 (s .options .interval) (y1 .0) in
+    let o = option-parts (optionsOf (s .options)) f in
     record {
       interval = eqb-true _ _ (x1 .0);
       indexInterval = eqb-true _ _ (x2 .0);
-      least = w .0;
-      most = w .1;
-      fits = y2 .1;
+      least = o .least;
+      most = o .most;
+      fits = o .filtering;
       since = leb-true _ _ (x3 .0);
       indexSince = leb-true _ _ (x4 .0);
       written = leb-true _ _ (x5 .0);

@@ -76,15 +76,17 @@ module _ (o : Given.Options) (r : Runs) where
         runs = begun-runs;
       }
 
+  refused-start : {n : ℕ} {s : Builder} → startOf (optionsOf o) r ≡ refuse n → s ≡ noBuilder → StartedIs o r r (record { answer = AnswerCase.Refused n; state = s })
+  unfolding answerOf startState
+  refused-start h g = record { answer = rw h; state = rw h g; kept = refl; stands = λ p. absurd (refuse-pass (sym h ∙ p)) }
+
   pub refused-options : {t : Bool} {s : Builder} → t ≡ optionsFit (optionsOf o) → t ≡ false → s ≡ noBuilder
       → StartedIs o r r (record { answer = AnswerCase.Refused 1; state = s })
-  unfolding answerOf startState
-  refused-options e f g = let h = start-options (sym e ∙ f) in record { answer = rw h; state = rw h g; kept = refl; stands = λ p. absurd (refuse-pass (sym h ∙ p)) }
+  refused-options e f g = refused-start (start-options (sym e ∙ f)) g
 
   pub refused-runs : {t u : Bool} {s : Builder} → t ≡ optionsFit (optionsOf o) → t ≡ true → u ≡ runsFit (choiceOf (o .filter)) (lengthsOf r) → u ≡ false → s ≡ noBuilder
       → StartedIs o r r (record { answer = AnswerCase.Refused 2; state = s })
-  unfolding answerOf startState
-  refused-runs e f e′ f′ g = let h = start-runs (sym e ∙ f) (sym e′ ∙ f′) in record { answer = rw h; state = rw h g; kept = refl; stands = λ p. absurd (refuse-pass (sym h ∙ p)) }
+  refused-runs e f e′ f′ g = refused-start (start-runs (sym e ∙ f) (sym e′ ∙ f′)) g
 
   pub passed-start : {t u : Bool} {s : Builder} → t ≡ optionsFit (optionsOf o) → t ≡ true → u ≡ runsFit (choiceOf (o .filter)) (lengthsOf r) → u ≡ true → s ≡ begun o (lengthsOf r)
       → StartedIs o r r (record { answer = AnswerCase.Ok; state = s })

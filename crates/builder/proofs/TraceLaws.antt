@@ -6,12 +6,11 @@ use mathlib.Core.Bool.{Bool, true, false, _&&_}
 use native.Mathlib.Omega.{arith}
 use lib.Dec.{leb, ltb, eqb}
 use lib.ListN.{length}
-use borrow.Author.Tests.{le-leb, leb-true, eq-eqb}
-use Rattle.codec.proofs.Prelude.{test, both, true-is}
+use borrow.Author.Tests.{le-leb, eq-eqb}
+use Rattle.codec.proofs.Prelude.{test, true-is, apart}
 use Rattle.keys.specs.Order.{below, separator}
 use Rattle.keys.proofs.KeyLaws.{internal-length}
 use Rattle.blocks.specs.Block.{Pair, sinceAll}
-use Rattle.codec.specs.Limits.{within}
 use Rattle.blocks.specs.Count.{BlockCount, countOf}
 use Rattle.block_builder.specs.Builder.{countIn, builderAfter, builderWith}
 use Rattle.blocks.proofs.CountLaws.{count-zero}
@@ -20,7 +19,7 @@ use Rattle.table.specs.Options.{Options, indexInterval, optionsFit, tableLimit,
 use Rattle.table.specs.Build.{Building, keyOf, pairOf, chunkBytes, begin, lastKey, indexPairs, close, closeBefore, add, finish, above, accept, acceptAll}
 use Rattle.table.specs.Runs.{Runs, between, finished, overlay, overlaid, FitsRoom, roomOf, startOf}
 use Rattle.table.specs.Counts.{finishedSize}
-use Rattle.table.proofs.AcceptLaws.{within-parts, accept-more}
+use Rattle.table.proofs.AcceptLaws.{fit-parts, option-parts, accept-more}
 use Rattle.table.proofs.CountsLaws.{size-finished}
 use Rattle.table.proofs.SufficeLaws.{runs-suffice, Rooms, Began, began}
 use Rattle.builder.specs.declared.table_builder.Lengths.{Lengths}
@@ -29,7 +28,7 @@ use Rattle.builder.specs.State.{optionsOf, countsIn, lengthsOf, sameLeng
 use Rattle.builder.specs.Steps.{small, Small, Whole, Roomy, lastOf, closedState, enteredState, aboveLast, cutOf, sepOf, midOf, nextOf, fitsOf, decideOf}
 use Rattle.builder.proofs.SizeLaws.{since-most, small-is}
 use Rattle.builder.proofs.DecideLaws.{sep-most, last-short, mid-not, mid-cut, mid-roomy, above-none, above-some}
-use Rattle.table.proofs.OverlayLaws.{overlay-front, overlay-of, overlay-long}
+use Rattle.table.proofs.OverlayLaws.{overlay-front, overlay-of, overlay-long, each, all-seven}
 use Rattle.builder.proofs.CloseLaws.{Counted, lens, counting, index-counting, open-size, options-interval, closed-counted}
 use Rattle.builder.proofs.EnterLaws.{entered-counted}
 
@@ -40,10 +39,6 @@ unfolding sinceAll
 since-all i n [] h k = k
 since-all i n (p ∷ ps) h k = since-all i _ ps h (since-most i n h k)
 
-interval-least : (o : Options) → optionsFit o ≡ true → 1 ≤ o .interval
-unfolding optionsFit
-interval-least o f = within-parts 1 1024 (o .interval) (both (within 1 1024 (o .interval)) _ f .0) .0
-
 module _ {o : Options} {b : Building} {s : Builder} (h : Counted o b s) (f : optionsFit o ≡ true) (room : ℕ) (u : FitsRoom room (between o b)) (l : room ≤ tableLimit) where
   pub counted-small : small s ≡ true
   unfolding small indexInterval
@@ -51,8 +46,8 @@ module _ {o : Options} {b : Building} {s : Builder} (h : Counted o b s) (f : opt
       let i = o .interval in
       let n = options-interval s o (h .options) in
       let x = lens h in
-      let p : s .pending .since ≤ s .options .interval = unfold countIn countOf in omega (arith, ap (λ (c : BlockCount). c .since) (counting h .counts), since-all i i (map pairOf (b .openBlock)) (interval-least o f) (omega arith)) in
-      let q : s .indexed .since ≤ s .options .interval = unfold countIn countOf in omega (arith, ap (λ (c : BlockCount). c .since) (index-counting h .counts), since-all i i (indexPairs o 0 (b .closed)) (interval-least o f) (omega arith)) in
+      let p : s .pending .since ≤ s .options .interval = unfold countIn countOf in omega (arith, ap (λ (c : BlockCount). c .since) (counting h .counts), since-all i i (map pairOf (b .openBlock)) (option-parts o f .least) (omega arith)) in
+      let q : s .indexed .since ≤ s .options .interval = unfold countIn countOf in omega (arith, ap (λ (c : BlockCount). c .since) (index-counting h .counts), since-all i i (indexPairs o 0 (b .closed)) (option-parts o f .least) (omega arith)) in
       rw (
         eq-eqb (s .pending .interval) (s .options .interval) (h .interval ∙ sym n),
         eq-eqb (s .indexed .interval) (s .options .interval) (h .indexInterval ∙ sym n),
@@ -96,12 +91,8 @@ module _ {o : Options} {b : Building} {s : Builder} (h : Counted o b s) (f : opt
       )
 
 pub addition-short : (a : Addition) → additionFits a ≡ true → (length (keyOf a) ≤ 1032) × (length (a .value) ≤ 32768)
-unfolding additionFits keyOf
-addition-short a f =
-    let x = both (within 1 1024 (length (a .word))) _ f in
-    let w = within-parts 1 1024 (length (a .word)) (x .0) in
-    let v = both (leb (length (a .value)) 32768) _ (x .1) in
-    (omega (arith, internal-length (a .word) (a .edition) (a .kind)), leb-true _ _ (v .0))
+unfolding keyOf
+addition-short a f = let p = fit-parts a f in (omega (arith, p .high, internal-length (a .word) (a .edition) (a .kind)), p .value)
 
 -- ---- the state before and after a cut, and with the entry
 
@@ -123,8 +114,7 @@ module _ {o : Options} {b : Building} {s : Builder} (h : Counted o b s) where
       go (x ∷ xs) e =
           sym (above-some s (keyOf a) (λ z.
           let q = count-zero (o .interval) (map pairOf (b .openBlock)) .0 (sym (ap (λ (c : BlockCount). c .restarts) (counting h .counts)) ∙ z) in
-          let y : _≡_ {A = ℕ} 0 1 = cc in
-          omega arith))
+          apart cc))
           ∙ ap (λ (k : List ℕ). below k (keyOf a)) (last-is ∙ ap lastKey e)
 
   module _ (m : Small s) (n : s .pending .len ≤ 1032) (a : Addition) where
@@ -169,15 +159,16 @@ refusalOf (pass b) = 0
 refusalOf (refuse n) = n
 
 pub lengths-of : (d r r′ : Runs) → r′ ≡ overlaid d r → (room : ℕ) → Rooms room r → FitsRoom room d → lengthsOf r′ ≡ lengthsOf r
-unfolding overlaid lengthsOf
+unfolding lengthsOf
 lengths-of d r r′ p room z f =
-    let x₀ = overlay-long (d .out) (r′ .out) (r .out) (ap (λ (x : Runs). x .out) p) (omega (arith, f .out, z .out)) in
-    let x₁ = overlay-long (d .index) (r′ .index) (r .index) (ap (λ (x : Runs). x .index) p) (omega (arith, f .index, z .index)) in
-    let x₂ = overlay-long (d .filters) (r′ .filters) (r .filters) (ap (λ (x : Runs). x .filters) p) (omega (arith, f .filters, z .filters)) in
-    let x₃ = overlay-long (d .restarts) (r′ .restarts) (r .restarts) (ap (λ (x : Runs). x .restarts) p) (omega (arith, f .restarts, z .restarts)) in
-    let x₄ = overlay-long (d .indexRestarts) (r′ .indexRestarts) (r .indexRestarts) (ap (λ (x : Runs). x .indexRestarts) p) (omega (arith, f .indexRestarts, z .indexRestarts)) in
-    let x₅ = overlay-long (d .offsets) (r′ .offsets) (r .offsets) (ap (λ (x : Runs). x .offsets) p) (omega (arith, f .offsets, z .offsets)) in
-    let x₆ = overlay-long (d .hashes) (r′ .hashes) (r .hashes) (ap (λ (x : Runs). x .hashes) p) (omega (arith, f .hashes, z .hashes)) in
+    let e = each p in
+    let x₀ = overlay-long (d .out) (r′ .out) (r .out) (e .out) (omega (arith, f .out, z .out)) in
+    let x₁ = overlay-long (d .index) (r′ .index) (r .index) (e .index) (omega (arith, f .index, z .index)) in
+    let x₂ = overlay-long (d .filters) (r′ .filters) (r .filters) (e .filters) (omega (arith, f .filters, z .filters)) in
+    let x₃ = overlay-long (d .restarts) (r′ .restarts) (r .restarts) (e .restarts) (omega (arith, f .restarts, z .restarts)) in
+    let x₄ = overlay-long (d .indexRestarts) (r′ .indexRestarts) (r .indexRestarts) (e .indexRestarts) (omega (arith, f .indexRestarts, z .indexRestarts)) in
+    let x₅ = overlay-long (d .offsets) (r′ .offsets) (r .offsets) (e .offsets) (omega (arith, f .offsets, z .offsets)) in
+    let x₆ = overlay-long (d .hashes) (r′ .hashes) (r .hashes) (e .hashes) (omega (arith, f .hashes, z .hashes)) in
     λ i. record { out = x₀ i; index = x₁ i; filters = x₂ i; restarts = x₃ i; «index_restarts» = x₄ i; offsets = x₅ i; hashes = x₆ i }
 
 -- start looks at the lengths alone
@@ -194,20 +185,21 @@ start-lengths o r r′ e =
       ap (λ (l : Lengths). l .hashes) e,
     )
 
-over-itself : (w e r : List ℕ) → e ≡ overlay w r → e ≡ overlay w e
-over-itself w e r p = overlay-of w e e (overlay-front w e r p) refl
-
 pub overlaid-itself : (d r r′ : Runs) → r′ ≡ overlaid d r → r′ ≡ overlaid d r′
-unfolding overlaid
 overlaid-itself d r r′ p =
-    let x₀ = over-itself (d .out) (r′ .out) (r .out) (ap (λ (x : Runs). x .out) p) in
-    let x₁ = over-itself (d .index) (r′ .index) (r .index) (ap (λ (x : Runs). x .index) p) in
-    let x₂ = over-itself (d .filters) (r′ .filters) (r .filters) (ap (λ (x : Runs). x .filters) p) in
-    let x₃ = over-itself (d .restarts) (r′ .restarts) (r .restarts) (ap (λ (x : Runs). x .restarts) p) in
-    let x₄ = over-itself (d .indexRestarts) (r′ .indexRestarts) (r .indexRestarts) (ap (λ (x : Runs). x .indexRestarts) p) in
-    let x₅ = over-itself (d .offsets) (r′ .offsets) (r .offsets) (ap (λ (x : Runs). x .offsets) p) in
-    let x₆ = over-itself (d .hashes) (r′ .hashes) (r .hashes) (ap (λ (x : Runs). x .hashes) p) in
-    λ i. record { out = x₀ i; index = x₁ i; filters = x₂ i; restarts = x₃ i; indexRestarts = x₄ i; offsets = x₅ i; hashes = x₆ i }
+    let e = each p in
+    all-seven (record {
+      out = itself (d .out) (r .out) (e .out);
+      index = itself (d .index) (r .index) (e .index);
+      filters = itself (d .filters) (r .filters) (e .filters);
+      restarts = itself (d .restarts) (r .restarts) (e .restarts);
+      indexRestarts = itself (d .indexRestarts) (r .indexRestarts) (e .indexRestarts);
+      offsets = itself (d .offsets) (r .offsets) (e .offsets);
+      hashes = itself (d .hashes) (r .hashes) (e .hashes);
+    })
+  where
+    itself : (w r : List ℕ) {e : List ℕ} → e ≡ overlay w r → e ≡ overlay w e
+    itself w r {e} p = overlay-of w e e (overlay-front w e r p) refl
 
 pub stands-counted : {o : Options} {b : Building} {s : Builder} {r : Runs} → Stands o b s r → Counted o b s
 stands-counted t = record { options = t .options; counts = t .counts; interval = t .interval; indexInterval = t .indexInterval; whole = record { pending = t .whole .0; indexed = t .whole .1 } }

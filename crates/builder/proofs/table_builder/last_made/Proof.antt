@@ -1,15 +1,15 @@
 -- `builder::table_builder::last_made` meets its contract.
-use mathlib.Core.Path.{_∙_}
+use mathlib.Core.Path.{sym, _∙_}
+use Rattle.filters.proofs.FilterCountLaws.{none-waits, some-wait}
 use Rattle.filter_block.specs.Choice.{choiceOf}
 use Rattle.builder.specs.Steps.{filterCountIn}
-use Rattle.builder.proofs.SizeLaws.{last-no, last-yes}
 use borrow.Author.Needs.{needs}
 use Rattle.builder.proofs.table_builder.last_made.Statement.{statement}
 use Rattle.builder.proofs.table_builder.last_made.Tie as tie
 
 returns : tie.Need-returns
 unfolding filterCountIn
-returns c = let a = c .before .args in last-no (choiceOf (a .choice)) (record { bytes = a .bytes; made = a .made; waiting = a .waiting }) (c .if1 .taken)
+returns c = let a = c .before .args in sym (none-waits (choiceOf (a .choice)) (record { bytes = a .bytes; made = a .made; waiting = a .waiting }) (c .if1 .taken))
 
 add-made-until : tie.Need-add-made-until
 add-made-until c = search needs
@@ -20,7 +20,7 @@ made-until-requires c κs = search needs
 returns-2 : tie.Need-returns-2
 returns-2 c =
     let a = c .before .before .args in
-    c .made-until .ensures ∙ last-yes (choiceOf (a .choice)) (record { bytes = a .bytes; made = a .made; waiting = a .waiting }) (c .before .if1 .left)
+    c .made-until .ensures ∙ sym (some-wait (choiceOf (a .choice)) (record { bytes = a .bytes; made = a .made; waiting = a .waiting }) (c .before .if1 .left))
 
 pub last-made-spec : {M : Type 1} → statement M
 last-made-spec = tie.close (tie.spec returns add-made-until made-until-requires returns-2)

@@ -1,17 +1,18 @@
 -- `builder::table_builder::made_until` meets its contract.
 use native.Mathlib.Omega.{arith}
-use mathlib.Core.Path.{ap, _∙_}
+use mathlib.Core.Path.{sym, ap, _∙_}
 use Prim.Native.Nat.{ℕ, _+_}
+use Rattle.filters.proofs.FilterCountLaws.{made-over, made-enough}
 use Rattle.filter_block.specs.Choice.{choiceOf}
 use Rattle.builder.specs.Steps.{filterCountIn}
-use Rattle.builder.proofs.SizeLaws.{made-no, made-yes, more-bytes}
+use Rattle.builder.proofs.SizeLaws.{more-bytes}
 use borrow.Author.Needs.{needs}
 use Rattle.builder.proofs.table_builder.made_until.Statement.{statement}
 use Rattle.builder.proofs.table_builder.made_until.Tie as tie
 
 returns : tie.Need-returns
 unfolding filterCountIn
-returns c = let a = c .before .args in made-no (choiceOf (a .choice)) (a .n) (record { bytes = a .bytes; made = a .made; waiting = a .waiting }) (omega arith)
+returns c = let a = c .before .args in sym (made-enough (choiceOf (a .choice)) (a .n) (record { bytes = a .bytes; made = a .made; waiting = a .waiting }) (omega arith))
 
 filter-bytes-requires : tie.Need-filter-bytes-requires
 filter-bytes-requires c κs = search needs
@@ -24,7 +25,7 @@ unfolding filterCountIn
 returns-2 c =
     let a = c .before .before .args in
     ap (λ (x : ℕ). record { bytes = a .bytes + x; made = a .n; waiting = 0 }) (more-bytes (choiceOf (a .choice)) (a .bytes) (a .waiting) _ (c .before .before .pre) (c .filter-bytes .ensures))
-    ∙ made-yes (choiceOf (a .choice)) (a .n) (record { bytes = a .bytes; made = a .made; waiting = a .waiting }) (omega arith)
+    ∙ sym (made-over (choiceOf (a .choice)) (a .n) (record { bytes = a .bytes; made = a .made; waiting = a .waiting }) (omega arith))
 
 pub made-until-spec : {M : Type 1} → statement M
 made-until-spec = tie.close (tie.spec returns filter-bytes-requires add-t8 returns-2)
