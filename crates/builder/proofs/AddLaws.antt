@@ -1,5 +1,5 @@
 -- Add: what its steps come to.
-use Prim.Native.Nat.{ℕ, zero, suc, _+_, _≤_}
+use Prim.Native.Nat.{ℕ, zero, suc, _≤_}
 use mathlib.Core.Path.{_≡_, refl, sym, ap, _∙_}
 use mathlib.Core.Logic.{_⊎_, inl, inr}
 use mathlib.Core.List.{List, [], _∷_, _++_}
@@ -7,13 +7,7 @@ use mathlib.Core.Bool.{Bool, true, false, cond}
 use native.Mathlib.Omega.{arith}
 use lib.Dec.{leb}
 use lib.ListN.{length, take}
-use Rattle.codec.specs.Put.{Wrote}
-use Rattle.codec.specs.declared.put.Written.{Written}
-use Rattle.codec.specs.declared.put.Written.the-variants.{At, NoRoom}
 use Rattle.codec.proofs.Prelude.{test, true-is, apart}
-use Rattle.codec.proofs.PutLaws.{put-length, put-front, wrote-next, wrote-never}
-use Rattle.keys.specs.Order.{internal}
-use Rattle.keys.proofs.KeyLaws.{internal-length}
 use Rattle.table.specs.Checked.{pass, refuse, _>>=_, ask}
 use Rattle.table.specs.Options.{Options, Addition, additionFits}
 use Rattle.table.specs.Build.{Building, keyOf, begin, closeBefore, add, finish, above, accept, acceptAll}
@@ -32,26 +26,9 @@ use Rattle.builder.specs.Steps.{Whole, Ready, earlyOf, midOf, nextOf, en
 use Rattle.builder.specs.Writes.{ClosedOut, ClosedIndex, ClosedFilters, EnteredRuns}
 use Rattle.builder.specs.Answers.{answerOf, Later, Traced, AddedIs}
 use Rattle.builder.proofs.CloseLaws.{Counted, ClosedRuns, closed-kept, indexKey, index-key-closed, closed-all}
-use Rattle.builder.proofs.DecideLaws.{early-sane, mid-cut}
+use Rattle.builder.proofs.DecideLaws.{early-sane, mid-is}
 use Rattle.builder.proofs.EnterLaws.{enter-fits, entered-all}
 use Rattle.builder.proofs.TraceLaws.{refusalOf, lengths-of, start-lengths, overlaid-itself, stands-counted, cut-close, no-cut-close, sep-short, mid-counted, roomy, addition-short, trace-began, trace-fits, trace-sane, trace-is-small, trace-next, trace-whole, trace-decides, next-short, next-lengths, mid-same}
-
--- ---- the key
-
-module _ (d word : List ℕ) (edition kind : ℕ) (r : Written) (e : List ℕ) (l : length d ≡ 1032) (k : length word ≤ 1024) (w : Wrote d 0 (internal word edition kind) r e) where
-  abbrev i : List ℕ
-  i = internal word edition kind
-
-  key-room : 0 + length i ≤ length d
-  key-room = omega (arith, internal-length word edition kind)
-
-  pub key-never : r ≡ NoRoom → ⊥
-  key-never = wrote-never d 0 i r e key-room w
-
-  pub key-put : (n : ℕ) → r ≡ At n → (n ≤ 1032) × ((length e ≡ 1032) × (take n e ≡ i))
-  key-put n p =
-      let m : n ≡ 0 + length i = wrote-next d 0 i n r e key-room w p in
-      (omega (arith, key-room), (ap length (w .left) ∙ put-length d 0 i ∙ l, rw (m, w .left) (put-front d 0 i key-room)))
 
 -- ---- decided, and then written
 
@@ -154,7 +131,7 @@ module _ (o : Options) (more : List Addition) (b : Building) (s : Builder) (r : 
       test (cutOf s)
       (λ u.
       let w = cut-close h small (t .short .0) a u in
-      let i : indexKey (midOf s (keyOf a)) ≡ sep = ap indexKey (sym (mid-cut s (keyOf a) refl u)) ∙ index-key-closed s sep k (h .whole .indexed) in
+      let i : indexKey (midOf s (keyOf a)) ≡ sep = ap indexKey (sym (mid-is s (keyOf a) (sym u))) ∙ index-key-closed s sep k (h .whole .indexed) in
       rw w (closed-all h small sep k room r (g .mid) (z .rooms) (trace-fits o more b s r e t .0) (rw w at mid-fits) (t .runs) u (rw i at (g .cut))))
       (λ u. rw (no-cut-close h small (t .short .0) a u) (closed-kept (g .cut) u ∙ t .runs))
 

@@ -11,7 +11,7 @@ use Rattle.codec.specs.Bytes.{part}
 use Rattle.codec.specs.Checksum.{trailer}
 use Rattle.codec.specs.Put.{room, put}
 use Rattle.codec.specs.Varint.{handleBytes}
-use Rattle.codec.proofs.PutLaws.{put-put, put-behind, put-front, put-length}
+use Rattle.codec.proofs.PutLaws.{put-put, put-behind, put-start, put-length}
 use Rattle.codec.proofs.TrailerLaws.{trailer-length}
 use Rattle.codec.proofs.VarintLaws.{handle-long}
 use Rattle.block_builder.specs.declared.block_builder.BlockBuilder.{BlockBuilder}
@@ -68,6 +68,17 @@ pub counted-long : {i : ℕ} {ps : List Pair} {b : BlockBuilder} → Counting i 
 unfolding countIn countOf
 counted-long c = (ap (λ (x : BlockCount). x .bytes) (c .counts), ap (λ (x : BlockCount). x .restarts) (c .counts))
 
+-- and stands behind some bytes of runs that hold it
+stands-in : {i : ℕ} {ps : List Pair} {b : BlockBuilder} → Counting i ps b → (w : List ℕ) {at : ℕ} → at ≡ length w → {e q : List ℕ} (r r′ : List ℕ) → e ≡ overlay (w ++ packed i i [] ps) r
+    → q ≡ overlay (restartsOf i i [] 0 ps) r′ → Blocks.Stands i ps b at e q
+stands-in {i} {ps} c w n {e} {q} r r′ p m =
+    let l = counted-long c in
+    record {
+      counting = c;
+      entries = rw (n, l .0) (overlay-first w (packed i i [] ps) e r p .1);
+      marks = rw (l .1) (overlay-front (restartsOf i i [] 0 ps) q r′ m);
+    }
+
 module _ {o : Options} {b : Building} {s : Builder} (h : Counted o b s) where
   abbrev ps : List Pair
   ps = map pairOf (b .openBlock)
@@ -119,26 +130,12 @@ module _ {o : Options} {b : Building} {s : Builder} (h : Counted o b s) where
   -- the open block stands in runs that hold the table
   pub open-stands : {e q : List ℕ} (r r′ : List ℕ) → e ≡ overlay (between o b .out) r → q ≡ overlay (between o b .restarts) r′ → Blocks.Stands (o .interval) ps (s .pending) (s .written) e q
   unfolding between held entriesOf restartsIn
-  open-stands {e} {q} r r′ p m =
-      let i = o .interval in
-      let c = counted-long counting in
-      record {
-        counting = counting;
-        entries = rw (written-is, c .0) (overlay-first (written o (b .closed)) (packed i i [] ps) e r p .1);
-        marks = rw (c .1) (overlay-front (restartsOf i i [] 0 ps) q r′ m);
-      }
+  open-stands r r′ p m = stands-in counting (written o (b .closed)) written-is r r′ p m
 
   -- and so does the index
   pub index-stands : {e q : List ℕ} (r r′ : List ℕ) → e ≡ overlay (between o b .index) r → q ≡ overlay (between o b .indexRestarts) r′ → Blocks.Stands (indexInterval o) is (s .indexed) 0 e q
-  unfolding between held entriesOf restartsIn part
-  index-stands {e} {q} r r′ p m =
-      let i = indexInterval o in
-      let c = counted-long index-counting in
-      record {
-        counting = index-counting;
-        entries = rw (c .0) (overlay-front (packed i i [] is) e r p);
-        marks = rw (c .1) (overlay-front (restartsOf i i [] 0 is) q r′ m);
-      }
+  unfolding between held entriesOf restartsIn
+  index-stands r r′ p m = stands-in index-counting [] refl r r′ p m
 
 -- ---- the open block closed, or not: what that leaves in the runs
 
@@ -164,7 +161,7 @@ indexKey s = take (s .indexed .len) (s .indexed .last)
 
 pub index-key-closed : (s : Builder) (key : List ℕ) → length key ≤ 1032 → length (s .indexed .last) ≡ 1032 → indexKey (closedState s key) ≡ key
 unfolding indexKey closedState builderAfter builderWith
-index-key-closed s key k w = rw zero-add at (put-front (s .indexed .last) 0 key (omega arith))
+index-key-closed s key k w = put-start (s .indexed .last) key (length key) refl (omega arith)
 
 -- ---- an entry that fits
 
@@ -216,13 +213,9 @@ made-overlay c ms gs {bytes} {made} {f = f} {q = q} f₀ q₀ x bi mi pf pq lf l
 
 -- ---- a block closed
 
-pub options-interval : (s : Builder) (o : Options) → optionsOf (s .options) ≡ o → s .options .interval ≡ o .interval
+pub options-are : (s : Builder) (o : Options) → optionsOf (s .options) ≡ o → (s .options .interval ≡ o .interval) × (choiceOf (s .options .filter) ≡ o .filtering)
 unfolding optionsOf
-options-interval s o e = ap (λ (x : Options). x .interval) e
-
-pub options-filter : (s : Builder) (o : Options) → optionsOf (s .options) ≡ o → choiceOf (s .options .filter) ≡ o .filtering
-unfolding optionsOf
-options-filter s o e = ap (λ (x : Options). x .filtering) e
+options-are s o e = (ap (λ (x : Options). x .interval) e, ap (λ (x : Options). x .filtering) e)
 
 pub part-put : (d : List ℕ) (at : ℕ) (bs : List ℕ) → at + length bs ≤ length d → part (put d at bs) at (length bs) ≡ bs
 part-put d at bs h =
@@ -236,7 +229,7 @@ module _ {o : Options} {b : Building} {s : Builder} (h : Counted o b s) (m : Sma
         options = unfold closedState in h .options;
         counts =
             closed-counts s m (h .whole) key k ∙ ap₂ (λ (x : Options) (c : Counts). countClose x key c) (h .options) (h .counts) ∙ sym (counts-close o key b);
-        interval = unfold closedState newBuilder in options-interval s o (h .options);
+        interval = unfold closedState newBuilder in options-are s o (h .options) .0;
         indexInterval = unfold closedState builderAfter builderWith in h .indexInterval;
         whole =
             record {
@@ -295,18 +288,11 @@ module _ {o : Options} {b : Building} {s : Builder} (h : Counted o b s) (m : Sma
       ∙ ap₂ (λ (at n : ℕ). indexPairs o 0 (b .closed) ++ (record { key = key; value = handleBytes (record { offset = at; size = n }) } ∷ []))
       (zero-add (length (written o (b .closed))) ∙ sym (written-is h)) (sym (open-size h))
 
-  index-of : between o d .index ≡ packed (indexInterval o) (indexInterval o) [] (indexPairs o 0 (b .closed) ++ (pair ∷ []))
-  unfolding between held entriesOf
-  index-of = ap (packed (indexInterval o) (indexInterval o) []) index-is
-
-  index-restarts-of : between o d .indexRestarts ≡ restartsOf (indexInterval o) (indexInterval o) [] 0 (indexPairs o 0 (b .closed) ++ (pair ∷ []))
-  unfolding between held restartsIn
-  index-restarts-of = ap (restartsOf (indexInterval o) (indexInterval o) [] 0) index-is
-
   pub closed-index : (x y : List ℕ) {x′ y′ : List ℕ} {a : Added} → AddedIs (s .indexed) 0 x x′ y y′ key handle a
       → x ≡ overlay (between o b .index) x → y ≡ overlay (between o b .indexRestarts) y
       → length (between o d .index) ≤ length x → length (between o d .indexRestarts) ≤ length y → length (between o b .index) < 2 ^ 32
       → (x′ ≡ overlay (between o d .index) x) × (y′ ≡ overlay (between o d .indexRestarts) y)
+  unfolding between held entriesOf restartsIn
   closed-index x y {x′} {y′} {a} g p q lx ly u =
       let st = index-stands h x y p q in
       let after = lens closed-counted in
@@ -319,7 +305,8 @@ module _ {o : Options} {b : Building} {s : Builder} (h : Counted o b s) (m : Sma
       let more = stands-more st pair g fits in
       let kept = added-kept g in
       let r = entry-overlay x y more (kept .0 .after) (kept .1 .after) in
-      (r .0 ∙ ap (λ (z : List ℕ). overlay z x) (sym index-of), r .1 ∙ ap (λ (z : List ℕ). overlay z y) (sym index-restarts-of))
+      let i = indexInterval o in
+      (r .0 ∙ ap (λ (ps : List Pair). overlay (packed i i [] ps) x) (sym index-is), r .1 ∙ ap (λ (ps : List Pair). overlay (restartsOf i i [] 0 ps) y) (sym index-is))
 
   -- the filters
   filters-close : filtersNow o d ≡ filtersUpTo (endsAt s) (filtersNow o b)
@@ -354,7 +341,7 @@ module _ {o : Options} {b : Building} {s : Builder} (h : Counted o b s) (m : Sma
       let n = filters-are h in
       let w : take (s .waiting) hs ≡ filtersNow o b .waiting = rw (n .2) (overlay-front (filtersNow o b .waiting) hs hs ph) in
       let gg : groupsUpTo (s .made) (endsAt s / 2048) (take (s .waiting) hs) ≡ groups = ap₂ (λ (n : ℕ) (v : List ℕ). groupsUpTo n (endsAt s / 2048) v) (n .1) w in
-      let x : MadeFilters (o .filtering) groups (s .filtered) (s .made) e f f′ q q′ = rw (options-filter s o (h .options), gg) at g in
+      let x : MadeFilters (o .filtering) groups (s .filtered) (s .made) e f f′ q q′ = rw (options-are s o (h .options) .1, gg) at g in
       rw made-close (made-overlay (o .filtering) (filtersNow o b .made) groups f q x (n .0) (n .1) pf pq (rw made-close at lf) (rw made-close at lq) (rw made-close at u))
 
   -- all seven

@@ -33,7 +33,6 @@ pub record Sane (s : Builder) (l : Lengths) : Type 0 where
   pub offsets : s .made ≤ l .offsets
   pub hashes : s .waiting ≤ l .hashes
   pub len : s .pending .len ≤ 1032
-  pub indexLen : s .indexed .len ≤ 1032
 
 pub sane-is : (s : Builder) (l : Lengths) → sane s l ≡ true → Sane s l
 unfolding sane sizesFit
@@ -59,7 +58,6 @@ sane-is s l e =
       offsets = leb-true _ _ (y6 .0);
       hashes = leb-true _ _ (y7 .0);
       len = leb-true _ _ (y8 .0);
-      indexLen = leb-true _ _ (y8 .1);
     }
 
 pub last-short : (s : Builder) → s .pending .len ≤ 1032 → length (lastOf s) ≤ 1032
@@ -106,19 +104,15 @@ above-some s key e = rw (ne-eqb (s .pending .restarts) 0 e)
 
 -- ---- a cut
 
-pub mid-not : (s : Builder) (key : List ℕ) {t : Bool} → t ≡ cutOf s → t ≡ false → s ≡ midOf s key
+pub mid-is : (s : Builder) (key : List ℕ) {t : Bool} → t ≡ cutOf s → cond t (closedState s (sepOf s key)) s ≡ midOf s key
 unfolding midOf
-mid-not s key e f = rw (sym e ∙ f)
-
-pub mid-cut : (s : Builder) (key : List ℕ) {t : Bool} → t ≡ cutOf s → t ≡ true → closedState s (sepOf s key) ≡ midOf s key
-unfolding midOf
-mid-cut s key e f = rw (sym e ∙ f)
+mid-is s key e = rw e
 
 pub mid-roomy : (s : Builder) (key : List ℕ) (v : ℕ) → Small s → s .pending .len ≤ 1032 → length key ≤ 1032 → v ≤ 32768 → {m : Builder} → m ≡ midOf s key → Roomy m (length key) v
 mid-roomy s key v h n k j {m} e =
     test (cutOf s)
-    (λ t. rw (e, ← mid-cut s key refl t) (roomy-closed (sepOf s key) (unfold sepOf in omega (arith, sep-most (lastOf s) key, last-short s n))))
-    (λ t. rw (e, ← mid-not s key refl t) roomy-same)
+    (λ t. rw (e, ← mid-is s key (sym t)) (roomy-closed (sepOf s key) (unfold sepOf in omega (arith, sep-most (lastOf s) key, last-short s n))))
+    (λ t. rw (e, ← mid-is s key (sym t)) roomy-same)
   where
     roomy-same : Roomy s (length key) v
     roomy-same =

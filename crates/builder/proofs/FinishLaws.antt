@@ -27,8 +27,6 @@ use Rattle.block_builder.specs.Builder.{countIn, newBuilder, builderAfter, buil
 use Rattle.block_builder.proofs.BuilderLaws.{counting-none, after-is, stands-none, stands-more, stands-size, added-is}
 use Rattle.block_builder.proofs.BuilderCode.{next-bytes}
 use Rattle.filter_block.specs.declared.filter.Filter as FilterEnum
-use Rattle.filter_block.specs.declared.filter.Filter.the-variants as FilterCase
-use Rattle.filters.specs.FilterBlock.{unfiltered, bitsPerKey}
 use Rattle.filter_block.specs.Choice.{choiceOf}
 use Rattle.table.specs.Build.{framed, metaName, footerBytes}
 use Rattle.table.specs.Table.{magic}
@@ -189,14 +187,6 @@ foot-next offset size {e} {r} {n} w p =
     wrote-next (replicate 48 0) 0 bs n r e (omega (arith, handle-long (record { offset = offset; size = size }))) w p
 
 -- ---- the metaindex
-
-pub name-none : (f : FilterEnum.Filter) → f ≡ FilterCase.None → metaName unfiltered ≡ metaName (choiceOf f)
-unfolding choiceOf
-name-none f e = rw e
-
-pub name-bits : (f : FilterEnum.Filter) {b : ℕ} → f ≡ FilterCase.Bits b → metaName (bitsPerKey b) ≡ metaName (choiceOf f)
-unfolding choiceOf
-name-bits f e = rw e
 
 pub meta-framed : {i at len : ℕ} {out out′ name value : List ℕ} (f : FilterEnum.Filter) (offset size : ℕ) → name ≡ metaName (choiceOf f) → value ≡ handleBytes (record { offset = offset; size = size })
     → (1 ≤ i → i ≤ 1024 → length name ≤ 1032 → length value ≤ 32768 → len ≡ length (blockBytes i (record { key = name; value = value } ∷ [])) → Framed out at (blockBytes i (record { key = name; value = value } ∷ [])) out′)

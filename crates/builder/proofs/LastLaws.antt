@@ -42,7 +42,7 @@ use Rattle.builder.proofs.DecideLaws.{sane-is, last-short, early-sane}
 use Rattle.builder.proofs.AddLaws.{early-zero}
 use Rattle.table.proofs.OverlayLaws.{overlay-none, overlay-front, Each, each, all-seven}
 use Rattle.filter_block.proofs.MakeLaws.{groups-some}
-use Rattle.builder.proofs.CloseLaws.{Counted, ClosedRuns, closed-kept, indexKey, index-key-closed, lens, counting, index-stands, filters-is, filters-are, written-is, options-filter, options-interval, made-overlay, closed-counted, waits-close, closed-all}
+use Rattle.builder.proofs.CloseLaws.{Counted, ClosedRuns, closed-kept, indexKey, index-key-closed, lens, counting, index-stands, filters-is, filters-are, written-is, options-are, made-overlay, closed-counted, waits-close, closed-all}
 use Rattle.builder.proofs.TraceLaws.{stands-counted, trace-began, trace-fits, trace-small, trace-is-small, trace-sane, last-is}
 
 -- ---- what the last writes leave in the runs
@@ -119,7 +119,7 @@ module _ (o : Options) (more : List Addition) (b : Building) (s : Builder) (r : 
 
   counts-end : lastFilters s ≡ filterCountOf (o .filtering) (lastFilter fs)
   unfolding lastFilters filtersIn
-  counts-end = ap₂ countLast (options-filter s o (t .options)) (filters-is last-counted) ∙ sym (count-last (o .filtering) fs)
+  counts-end = ap₂ countLast (options-are s o (t .options) .1) (filters-is last-counted) ∙ sym (count-last (o .filtering) fs)
 
   table-most : length (written o (c .closed)) ≤ length (Build.finish o b)
   unfolding Build.finish
@@ -175,7 +175,7 @@ module _ (o : Options) (more : List Addition) (b : Building) (s : Builder) (r : 
       ch = o .filtering
 
       mid-filter : choiceOf (mid .options .filter) ≡ ch
-      mid-filter = options-filter mid o (last-counted .options)
+      mid-filter = options-are mid o (last-counted .options) .1
 
       pub last-runs : (f′ ≡ overlay (madeBytes ch (lastFilter fs .made)) (r .filters)) × (q′ ≡ overlay (starts ch 0 (lastFilter fs .made)) (r .offsets))
       unfolding between held makeFilter
@@ -220,7 +220,7 @@ module _ (o : Options) (more : List Addition) (b : Building) (s : Builder) (r : 
             ap₂ filterBlockOf x y ∙ ap (λ (z : Filters). filterBlockOf (madeBytes ch (lastFilter z .made)) (starts ch 0 (lastFilter z .made))) (sym end-filters)
 
         mid-interval : mid .options .interval ≡ o .interval
-        mid-interval = options-interval mid o (last-counted .options)
+        mid-interval = options-are mid o (last-counted .options) .0
 
         meta-is : metaBlock mid (length (filterBlock f f′ q′)) ≡ metaBytes o cs
         unfolding metaBlock metaBytes metaPair
@@ -228,7 +228,7 @@ module _ (o : Options) (more : List Addition) (b : Building) (s : Builder) (r : 
 
         least-most : (1 ≤ mid .options .interval) × (mid .options .interval ≤ 1024)
         least-most =
-            let n = options-interval s o (t .options) in
+            let n = options-are s o (t .options) .0 in
             (omega (arith, mid-interval, n, is-small .least), omega (arith, mid-interval, n, is-small .most))
 
         abbrev whole : List ℕ → List ℕ → List ℕ

@@ -3,7 +3,7 @@ use Prim.Native.Nat.{ℕ, zero, suc, _+_, _*_, _/_, _^_, _-_, _≤_, _<_, min}
 use mathlib.Core.Path.{_≡_, refl, sym, ap, ap₂, _∙_}
 use mathlib.Core.List.{List}
 use mathlib.Core.Bool.{true}
-use native.Mathlib.Nat.{mul-le-mul-left, zero-add}
+use native.Mathlib.Nat.{mul-le-mul-left}
 use native.Mathlib.Omega.{arith}
 use lib.Dec.{eqb, leb, ltb}
 use lib.ListN.{length, take}
@@ -11,7 +11,7 @@ use borrow.Author.Tests.{le-leb, leb-true, eqb-false, eqb-true}
 use Rattle.codec.specs.Varint.{varintBytes, varintBytesF}
 use Rattle.codec.specs.Put.{put}
 use Rattle.codec.proofs.Prelude.{test, split, both}
-use Rattle.codec.proofs.PutLaws.{put-front}
+use Rattle.codec.proofs.PutLaws.{put-start}
 use Rattle.codec.proofs.VarintLaws.{varint-bytes-length}
 use Rattle.block_builder.specs.declared.block_builder.BlockBuilder.{BlockBuilder}
 use Rattle.block_builder.specs.declared.block_builder.Counted.{Counted}
@@ -23,7 +23,6 @@ use Rattle.block_builder.proofs.BuilderLaws.{counting-none}
 use Rattle.block_builder.proofs.BuilderCode.{fits-all}
 use Rattle.blocks.proofs.CountLaws.{count-none, entry-restarts}
 use Rattle.filter_block.specs.declared.filter.Filter as FilterEnum
-use Rattle.filter_block.specs.declared.filter.Filter.the-variants as FilterCase
 use Rattle.filters.specs.Filter.{filterSize}
 use Rattle.filters.specs.FilterBlock.{Filtering, unfiltered, bitsPerKey}
 use Rattle.filters.specs.FilterCount.{FilterCount, filterBytesOf, countMade, countUpTo, countLast, filterBlockSize}
@@ -68,7 +67,7 @@ pub count-after : (b : BlockBuilder) (key : List ℕ) (v : ℕ) → length key �
 unfolding countIn builderAfter builderWith countEntry
 count-after b key v h l =
     let c = countEntry (b .interval) (countIn b) key v in
-    let k : take (length key) (put (b .last) 0 key) ≡ key = rw zero-add at (put-front (b .last) 0 key (omega arith)) in
+    let k : take (length key) (put (b .last) 0 key) ≡ key = put-start (b .last) key (length key) refl (omega arith) in
     λ i. record { bytes = c .bytes; restarts = c .restarts; since = c .since; last = k i }
 
 -- ---- filters
@@ -324,9 +323,8 @@ unfolding metaName bloomName
 name-most unfiltered = omega arith
 name-most (bitsPerKey b) = omega arith
 
-pub name-some : (f : FilterEnum.Filter) (b : ℕ) → f ≡ FilterCase.Bits b → 34 ≡ length (metaName (choiceOf f))
-unfolding metaName choiceOf bloomName
-name-some f b e = rw e
+pub name-is : {f g : FilterEnum.Filter} → f ≡ g → metaName (choiceOf g) ≡ metaName (choiceOf f)
+name-is e = ap (λ (x : FilterEnum.Filter). metaName (choiceOf x)) (sym e)
 
 -- ---- what the tests say
 

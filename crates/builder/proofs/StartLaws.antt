@@ -41,13 +41,9 @@ module _ (o : Given.Options) (r : Runs) where
   unfolding ask _>>=_
   start-options e = start-is ∙ rw e
 
-  start-runs : optionsFit (optionsOf o) ≡ true → runsFit (choiceOf (o .filter)) (lengthsOf r) ≡ false → startOf (optionsOf o) r ≡ refuse 2
+  start-fits : optionsFit (optionsOf o) ≡ true → startOf (optionsOf o) r ≡ ask 2 (runsFit (choiceOf (o .filter)) (lengthsOf r))
   unfolding ask _>>=_
-  start-runs e f = start-is ∙ rw (e, f)
-
-  start-passes : optionsFit (optionsOf o) ≡ true → runsFit (choiceOf (o .filter)) (lengthsOf r) ≡ true → startOf (optionsOf o) r ≡ pass tt
-  unfolding ask _>>=_
-  start-passes e f = start-is ∙ rw (e, f)
+  start-fits e = start-is ∙ rw e
 
   begun-counts : countsIn (begun o (lengthsOf r)) ≡ noCounts (optionsOf o)
   unfolding begun countsIn noCounts optionsOf indexInterval
@@ -86,9 +82,10 @@ module _ (o : Given.Options) (r : Runs) where
 
   pub refused-runs : {t u : Bool} {s : Builder} → t ≡ optionsFit (optionsOf o) → t ≡ true → u ≡ runsFit (choiceOf (o .filter)) (lengthsOf r) → u ≡ false → s ≡ noBuilder
       → StartedIs o r r (record { answer = AnswerCase.Refused 2; state = s })
-  refused-runs e f e′ f′ g = refused-start (start-runs (sym e ∙ f) (sym e′ ∙ f′)) g
+  unfolding ask
+  refused-runs e f e′ f′ g = refused-start (start-fits (sym e ∙ f) ∙ rw (sym e′ ∙ f′)) g
 
   pub passed-start : {t u : Bool} {s : Builder} → t ≡ optionsFit (optionsOf o) → t ≡ true → u ≡ runsFit (choiceOf (o .filter)) (lengthsOf r) → u ≡ true → s ≡ begun o (lengthsOf r)
       → StartedIs o r r (record { answer = AnswerCase.Ok; state = s })
-  unfolding answerOf startState
-  passed-start e f e′ f′ g = let h = start-passes (sym e ∙ f) (sym e′ ∙ f′) in record { answer = rw h; state = rw h g; kept = refl; stands = λ p. rw g (begun-stands p) }
+  unfolding answerOf startState ask
+  passed-start e f e′ f′ g = let h : startOf (optionsOf o) r ≡ pass tt = start-fits (sym e ∙ f) ∙ rw (sym e′ ∙ f′) in record { answer = rw h; state = rw h g; kept = refl; stands = λ p. rw g (begun-stands p) }

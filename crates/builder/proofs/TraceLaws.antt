@@ -8,7 +8,7 @@ use lib.Dec.{leb, ltb, eqb}
 use lib.ListN.{length}
 use borrow.Author.Tests.{le-leb, eq-eqb}
 use Rattle.codec.proofs.Prelude.{test, true-is, apart}
-use Rattle.keys.specs.Order.{below, separator}
+use Rattle.keys.specs.Order.{internal, below, separator}
 use Rattle.keys.proofs.KeyLaws.{internal-length}
 use Rattle.blocks.specs.Block.{Pair, sinceAll}
 use Rattle.blocks.specs.Count.{BlockCount, countOf}
@@ -27,9 +27,9 @@ use Rattle.builder.specs.declared.table_builder.Builder.{Builder}
 use Rattle.builder.specs.State.{optionsOf, countsIn, lengthsOf, sameLengths, sizesFit, sane, Stands}
 use Rattle.builder.specs.Steps.{small, Small, Whole, Roomy, lastOf, closedState, enteredState, aboveLast, cutOf, sepOf, midOf, nextOf, fitsOf, decideOf}
 use Rattle.builder.proofs.SizeLaws.{since-most, small-is}
-use Rattle.builder.proofs.DecideLaws.{sep-most, last-short, mid-not, mid-cut, mid-roomy, above-none, above-some}
+use Rattle.builder.proofs.DecideLaws.{sep-most, last-short, mid-is, mid-roomy, above-none, above-some}
 use Rattle.table.proofs.OverlayLaws.{overlay-front, overlay-of, overlay-long, each, all-seven}
-use Rattle.builder.proofs.CloseLaws.{Counted, lens, counting, index-counting, open-size, options-interval, closed-counted}
+use Rattle.builder.proofs.CloseLaws.{Counted, lens, counting, index-counting, open-size, options-are, closed-counted}
 use Rattle.builder.proofs.EnterLaws.{entered-counted}
 
 -- ---- a state that counts a table within the room is sane and small
@@ -44,7 +44,7 @@ module _ {o : Options} {b : Building} {s : Builder} (h : Counted o b s) (f : opt
   unfolding small indexInterval
   counted-small =
       let i = o .interval in
-      let n = options-interval s o (h .options) in
+      let n = options-are s o (h .options) .0 in
       let x = lens h in
       let p : s .pending .since ≤ s .options .interval = unfold countIn countOf in omega (arith, ap (λ (c : BlockCount). c .since) (counting h .counts), since-all i i (map pairOf (b .openBlock)) (option-parts o f .least) (omega arith)) in
       let q : s .indexed .since ≤ s .options .interval = unfold countIn countOf in omega (arith, ap (λ (c : BlockCount). c .since) (index-counting h .counts), since-all i i (indexPairs o 0 (b .closed)) (option-parts o f .least) (omega arith)) in
@@ -90,9 +90,12 @@ module _ {o : Options} {b : Building} {s : Builder} (h : Counted o b s) (f : opt
         le-leb (s .indexed .len) 1032 (k .1),
       )
 
+pub key-short : (word : List ℕ) (edition kind : ℕ) → length word ≤ 1024 → length (internal word edition kind) ≤ 1032
+key-short word edition kind h = omega (arith, internal-length word edition kind)
+
 pub addition-short : (a : Addition) → additionFits a ≡ true → (length (keyOf a) ≤ 1032) × (length (a .value) ≤ 32768)
 unfolding keyOf
-addition-short a f = let p = fit-parts a f in (omega (arith, p .high, internal-length (a .word) (a .edition) (a .kind)), p .value)
+addition-short a f = let p = fit-parts a f in (key-short (a .word) (a .edition) (a .kind) (p .high), p .value)
 
 -- ---- the state before and after a cut, and with the entry
 
@@ -140,8 +143,8 @@ module _ {o : Options} {b : Building} {s : Builder} (h : Counted o b s) where
     pub mid-counted : Counted o (closeBefore o key b) (midOf s key)
     mid-counted =
         test (cutOf s)
-        (λ t. rw (cut-close t, ← mid-cut s key refl t) (closed-counted h m (sepOf s key) sep-short))
-        (λ t. rw (no-cut-close t, ← mid-not s key refl t) h)
+        (λ t. rw (cut-close t, ← mid-is s key (sym t)) (closed-counted h m (sepOf s key) sep-short))
+        (λ t. rw (no-cut-close t, ← mid-is s key (sym t)) h)
 
     module _ (f : additionFits a ≡ true) where
       pub roomy : Roomy (midOf s key) (length key) (length (a .value))
@@ -240,16 +243,16 @@ module _ (o : Options) (more : List Addition) (b : Building) (s : Builder) (r : 
     next-short = (unfold nextOf enteredState builderAfter builderWith in addition-short a f .0, test (cutOf s) cut no-cut)
       where
         cut : cutOf s ≡ true → next .indexed .len ≤ 1032
-        cut q = unfold nextOf enteredState in rw (← mid-cut s its refl q) (unfold closedState builderAfter builderWith sepOf in omega (arith, sep-most (lastOf s) its, last-short s (t .short .0)))
+        cut q = unfold nextOf enteredState in rw (← mid-is s its (sym q)) (unfold closedState builderAfter builderWith sepOf in omega (arith, sep-most (lastOf s) its, last-short s (t .short .0)))
 
         no-cut : cutOf s ≡ false → next .indexed .len ≤ 1032
-        no-cut q = unfold nextOf enteredState in rw (← mid-not s its refl q) (t .short .1)
+        no-cut q = unfold nextOf enteredState in rw (← mid-is s its (sym q)) (t .short .1)
 
     pub mid-same : (midOf s its .lengths ≡ s .lengths) × (midOf s its .finished ≡ s .finished)
     mid-same =
         test (cutOf s)
-        (λ q. rw (← mid-cut s its refl q) (unfold closedState in (refl, refl)))
-        (λ q. rw (← mid-not s its refl q) (refl, refl))
+        (λ q. rw (← mid-is s its (sym q)) (unfold closedState in (refl, refl)))
+        (λ q. rw (← mid-is s its (sym q)) (refl, refl))
 
     pub next-lengths : next .lengths ≡ lengthsOf r
     unfolding nextOf enteredState

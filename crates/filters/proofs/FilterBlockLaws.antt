@@ -6,11 +6,11 @@ use mathlib.Core.Bool.{true, or-true}
 use native.Mathlib.Numerals.{add-one}
 use native.Mathlib.Nat.{zero-add}
 use native.Mathlib.Omega.{arith}
-use lib.ListN.{length, drop, getD, length-append}
+use lib.ListN.{length, take, drop, getD, length-append}
 use lib.Seq.{take-at, drop-append-seam}
 use borrow.Author.Tests.{le-leb, eq-eqb}
 use Rattle.codec.specs.Bytes.{part, bytesOf, fours, numbers}
-use Rattle.codec.proofs.Lists.{Below}
+use Rattle.codec.proofs.Lists.{Below, below-take}
 use Rattle.codec.proofs.BytesLaws.{part-at, back-at, last-one, bytes-length, number-bytes, fours-length, fours-append, numbers-fours, number-of-fours}
 use Rattle.filters.specs.FilterBlock.{baseOf, arrayOf, countOf, startOf, rising, filterFormed, mayMatch, Filtering, filterFor, Filters, makeFilter, lastFilter, madeBytes, starts, filterBlockOf, filterBlockBytes}
 use Rattle.filters.proofs.FilterLaws.{never-denies}
@@ -76,10 +76,9 @@ module _ (c : Filtering) where
       rw (le-leb low at h, l) (offsets-rise at (at + length f) gs (omega arith))
 
   starts-below : (at : ℕ) (gs : List (List ℕ)) (m : ℕ) → at + length (madeBytes c gs) < m → Below m (starts c at gs)
-  unfolding starts madeBytes
-  starts-below at [] m h = tt
-  starts-below at (g ∷ gs) m h =
-      let l = length-append (filterFor c g) (madeBytes c gs) in (omega arith, starts-below (at + length (filterFor c g)) gs m (omega arith))
+  starts-below at gs m h =
+      let e : take (length gs) (bounds c at gs) ≡ starts c at gs = rw bounds-are (take-at (starts c at gs) _ (length gs) (starts-length at gs)) in
+      rw e at (below-take m (length gs) (bounds c at gs) (bounds-below at gs m h))
 
   -- ---- one filter more
 

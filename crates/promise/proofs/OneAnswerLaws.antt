@@ -7,6 +7,7 @@ use mathlib.Core.Logic.{_⊎_, inl, inr}
 use native.Mathlib.Omega.{arith}
 use lib.ListN.{length, take}
 use lib.Seq.{length-take-le}
+use Rattle.codec.specs.Shown.{Shown}
 use Rattle.codec.proofs.Prelude.{test, split, apart}
 use Rattle.keys.specs.Order.{Point}
 use Rattle.filter_block.specs.Choice.{choiceOf}
@@ -28,7 +29,6 @@ use Rattle.builder.specs.declared.table_builder.Builder.{Builder}
 use Rattle.builder.specs.declared.table_builder.Outcome.the-variants as OutcomeCase
 use Rattle.builder.specs.State.{optionsOf, countsIn, Stands}
 use Rattle.builder.specs.Answers.{answerOf, Traced}
-use Rattle.reader.specs.declared.table_reader.Found.{Found}
 use Rattle.reader.specs.declared.table_reader.Sought.{Sought}
 use Rattle.reader.specs.Answers.{soughtOf, lookedOf}
 use Rattle.promise.specs.OneAnswer
@@ -100,11 +100,15 @@ answer-fixed k so left w x y g h =
     let e = both (w .1 (x .0) (x .1) g) (w .1 (y .0) (y .1) h) in
     λ i. (e i, (left (x .0) (x .1) g ∙ ap (λ (b : Answer). bufferAfter b k) e ∙ sym (left (y .0) (y .1) h)) i)
 
+sought-fixed : {R : Type 0} (show : Answer → R) (t : List ℕ) (p : Point) (says : Answer) (k : List ℕ) → OneAnswer.Asked t p k
+    → OneAnswer.Fixed (R × List ℕ) (λ x. Shown show (λ a. Reads.Sought t p says k a (x .1)) (x .0))
+sought-fixed {R} show t p says k d = shown-fixed Answer R (List ℕ) show (λ a k′. Reads.Sought t p says k a k′) (answer-fixed k _ (λ a k′ h. h .buffer) (asked t says p k d))
+
 pub seek-fixed : OneAnswer.seekFixed
-seek-fixed t p k d = shown-fixed Answer Sought (List ℕ) soughtOf (λ a k′. Reads.Sought t p (seekSays t p) k a k′) (answer-fixed k _ (λ a k′ h. h .buffer) (asked t (seekSays t p) p k d))
+seek-fixed t p k d = sought-fixed soughtOf t p (seekSays t p) k d
 
 pub lookup-fixed : OneAnswer.lookupFixed
-lookup-fixed t p k d = shown-fixed Answer Found (List ℕ) lookedOf (λ a k′. Reads.Sought t p (lookupSays t p) k a k′) (answer-fixed k _ (λ a k′ h. h .buffer) (asked t (lookupSays t p) p k d))
+lookup-fixed t p k d = sought-fixed lookedOf t p (lookupSays t p) k d
 
 pub step-fixed : OneAnswer.stepFixed
 step-fixed t ix at k d = shown-fixed Answer Sought (List ℕ) soughtOf (λ a k′. Reads.Stepped t (stepSays t ix at) k a k′) (answer-fixed k _ (λ a k′ h. h .buffer) (stepped t (stepSays t ix at) k d))

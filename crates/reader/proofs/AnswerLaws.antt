@@ -3,8 +3,10 @@ use Prim.Native.Nat.{ℕ, _+_, _≤_}
 use mathlib.Core.Path.{_≡_, refl, sym, _∙_, ap, subst}
 use mathlib.Core.List.{List}
 use mathlib.Core.Logic.{_⊎_, inl, inr, ⊎-elim}
+use native.Mathlib.Omega.{arith}
 use lib.Dec.{T, leb, leb→le}
 use lib.ListN.{length, take}
+use lib.Seq.{length-take-le}
 use Rattle.codec.proofs.Prelude.{and-r}
 use Rattle.table.specs.Table.{Found}
 use Rattle.table.specs.Reads.{Answer, refused, nothing, found, deleted, listed}
@@ -70,3 +72,10 @@ tells-short {t} w = subst Short (sym (w .shown)) (go (w .answer) (w .inside))
     go nothing i = tt
     go (found x) i = listed-key t x i
     go (deleted x) i = listed-key t x i
+
+-- an entry's key lies in a buffer of 1,032 bytes
+pub entry-short : {r : Sought} {e : Entry} → r ≡ SoughtCase.Entry e → Short r → e .«key_len» ≤ 1032
+entry-short is s = subst Short is s
+
+pub key-long : {r : Sought} {e : Entry} (b : List ℕ) → r ≡ SoughtCase.Entry e → Short r → length b ≡ 1032 → e .«key_len» ≡ length (take (e .«key_len») b)
+key-long {e = e} b is s l = sym (length-take-le (e .«key_len») b (omega (arith, entry-short is s)))

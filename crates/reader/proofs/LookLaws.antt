@@ -23,13 +23,13 @@ use Rattle.table_block.specs.declared.table_block.FilterRead.the-variants as Fi
 use Rattle.table_block.specs.Answers.{bloomAnswer, BloomRead}
 use Rattle.table.specs.Checked.{pass}
 use Rattle.table.specs.Table
-use Rattle.table.specs.Table.{Footer, endsBefore, placed, sealed, contents, sortedIn, sortedAt, bloomHandle, filterOf, mayHold, Opened, opened, handleOf, entriesAt, foundIn, foundsOf}
+use Rattle.table.specs.Table.{Footer, endsBefore, placed, sealed, contents, bloomHandle, filterOf, mayHold, Opened, opened, handleOf, entriesAt, foundIn, foundsOf}
 use Rattle.table.specs.Promise.{Passed, lookupOf}
 use Rattle.table.specs.Reads.{Answer, refused, nothing, found, deleted, byKind, lookupSays, listed}
-use Rattle.table.proofs.CheckedLaws.{passing, asking, pass-same, orRefuse-pass}
+use Rattle.table.proofs.CheckedLaws.{passing, asking, pass-same}
 use Rattle.table.proofs.ReadsLaws.{by-kind}
 use Rattle.table.proofs.SearchLaws.{onlyWord, for-by-reach, lookup-beyond, lookup-law, filter-law}
-use Rattle.table.proofs.StandLaws.{Laid, Settled}
+use Rattle.table.proofs.StandLaws.{sorted-tells, Laid, Settled}
 use Rattle.reader.specs.declared.table_reader.Entry as EntryStruct
 use Rattle.reader.specs.declared.table_reader.Found.the-variants as FoundCase
 use Rattle.reader.specs.declared.table_reader.Held.{Held}
@@ -54,14 +54,6 @@ record Meta (t : List ℕ) (h : Handle) (o : Opened) : Type 0 where
   reads : readable (contents t h) ≡ some entries
   filter : filterOf t (bloomHandle (pairsOf entries)) ≡ pass (o .filter)
 
-meta-reads : (t : List ℕ) (h : Handle) {ms : List Entry} → sortedAt metaBlock t h ≡ pass ms → readable (contents t h) ≡ some ms
-unfolding sortedAt sortedIn sealed
-meta-reads t h p =
-    asking _ _ _ p λ intact p.
-    passing _ _ p λ es read p.
-    asking _ _ _ p λ order p.
-    formed-readable metaBlock (contents t h) (orRefuse-pass 10 _ read) ∙ ap some (pass-same p)
-
 meta : (t : List ℕ) {offset size : ℕ} → Named t offset size → {o : Opened} → opened t ≡ pass o → Meta t (record { offset = offset; size = size }) o
 unfolding opened
 meta t {offset} {size} n {o} op =
@@ -72,7 +64,7 @@ meta t {offset} {size} n {o} op =
     let h-is : ft .metaindex ≡ record { offset = offset; size = size } = ap (λ (x : Footer). x .metaindex) (pass-same (sym foot ∙ n .reads)) ∙ n .metaindex in
     record {
       entries = ms;
-      reads = rw (← h-is) (meta-reads t (ft .metaindex) meta);
+      reads = rw (← h-is) (formed-readable metaBlock (contents t (ft .metaindex)) (sorted-tells metaBlock t (ft .metaindex) meta .0));
       filter = filter ∙ ap (λ (x : Opened). pass (x .filter)) (pass-same r);
     }
 
@@ -150,23 +142,15 @@ module _ {r : Sought} (w : List ℕ) (a : Answer) (shown : r ≡ soughtOf a) whe
   word-none e = rw (shows a shown e)
 
   module _ (b : List ℕ) {e : EntryStruct.Entry} (is : r ≡ SoughtCase.Entry e) where
-    -- whether the key is of the word, by the bytes in the buffer
-    of-key : {o : Bool} {k : List ℕ} → o ≡ sameBytes (userOf (take (e .«key_len») b)) w → take (e .«key_len») b ≡ k → sameBytes (userOf k) w ≡ o
-    of-key f k-is = ap (λ (k : List ℕ). sameBytes (userOf k) w) (sym k-is) ∙ sym f
-
-    pub word-other : false ≡ sameBytes (userOf (take (e .«key_len») b)) w → Holds a b → SoughtCase.None ≡ soughtOf (ofWord w a)
+    -- by the bytes in the buffer
+    pub word-is : {m : Bool} → m ≡ sameBytes (userOf (take (e .«key_len») b)) w → Holds a b → elim m [ true ↦ SoughtCase.Entry e | false ↦ SoughtCase.None ] ≡ soughtOf (ofWord w a)
     unfolding soughtOf ofWord
-    word-other f holds = by-entry (λ (a : Answer). SoughtCase.None ≡ soughtOf (ofWord w a)) b a shown is holds go go
+    word-is {m} f holds = by-entry (λ (a : Answer). elim m [ true ↦ SoughtCase.Entry e | false ↦ SoughtCase.None ] ≡ soughtOf (ofWord w a)) b a shown is holds go go
       where
-        go : (x : Table.Found) → entryOf x ≡ e → take (e .«key_len») b ≡ x .key → SoughtCase.None ≡ soughtOf (ofWord w (found x))
-        go x s k = rw (of-key f k, ofWord)
-
-    pub word-same : true ≡ sameBytes (userOf (take (e .«key_len») b)) w → Holds a b → SoughtCase.Entry e ≡ soughtOf (ofWord w a)
-    unfolding soughtOf ofWord
-    word-same f holds = by-entry (λ (a : Answer). SoughtCase.Entry e ≡ soughtOf (ofWord w a)) b a shown is holds go go
-      where
-        go : (x : Table.Found) → entryOf x ≡ e → take (e .«key_len») b ≡ x .key → SoughtCase.Entry e ≡ soughtOf (ofWord w (found x))
-        go x s k = rw (of-key f k, ofWord) (ap SoughtCase.Entry (sym s) ∙ sym (kind-shown x))
+        go : (x : Table.Found) → entryOf x ≡ e → take (e .«key_len») b ≡ x .key → elim m [ true ↦ SoughtCase.Entry e | false ↦ SoughtCase.None ] ≡ soughtOf (ofWord w (found x))
+        go x s k =
+            let n : m ≡ sameBytes (userOf (x .key)) w = f ∙ ap (λ (k : List ℕ). sameBytes (userOf k) w) k in
+            rw n (test (sameBytes (userOf (x .key)) w) (λ t. rw (t, ofWord) (ap SoughtCase.Entry (sym s) ∙ sym (kind-shown x))) (λ t. rw (t, ofWord)))
 
 -- an answer of a word has its key where it was, lies in the table, and goes by its kind
 abbrev Kept : List ℕ → List ℕ → Answer → Type 0
@@ -198,19 +182,12 @@ module _ {r : Sought} (a : Answer) (shown : r ≡ soughtOf a) where
     unfolding kindOf
     kind-key k-is = ap (λ (k : List ℕ). eqb (tagOf k % 256) 0) (sym k-is)
 
-    pub kind-deleted : eqb (tagOf (take (e .«key_len») b) % 256) 0 ≡ true → Holds a b → Kinded a → FoundCase.Deleted e ≡ lookedOf a
+    pub kind-is : {m : Bool} → eqb (tagOf (take (e .«key_len») b) % 256) 0 ≡ m → Holds a b → Kinded a → elim m [ true ↦ FoundCase.Deleted e | false ↦ FoundCase.Entry e ] ≡ lookedOf a
     unfolding lookedOf
-    kind-deleted f holds =
-        by-entry (λ (a : Answer). Kinded a → FoundCase.Deleted e ≡ lookedOf a) b a shown is holds
-        (λ x s k kind. absurd (false≢true (sym kind ∙ kind-key k ∙ f)))
-        (λ x s k kind. ap FoundCase.Deleted (sym s))
-
-    pub kind-value : eqb (tagOf (take (e .«key_len») b) % 256) 0 ≡ false → Holds a b → Kinded a → FoundCase.Entry e ≡ lookedOf a
-    unfolding lookedOf
-    kind-value f holds =
-        by-entry (λ (a : Answer). Kinded a → FoundCase.Entry e ≡ lookedOf a) b a shown is holds
-        (λ x s k kind. ap FoundCase.Entry (sym s))
-        (λ x s k kind. absurd (false≢true (sym f ∙ sym (kind-key k) ∙ kind)))
+    kind-is {m} f holds =
+        by-entry (λ (a : Answer). Kinded a → elim m [ true ↦ FoundCase.Deleted e | false ↦ FoundCase.Entry e ] ≡ lookedOf a) b a shown is holds
+        (λ x s k kind. let n : m ≡ false = sym f ∙ sym (kind-key k) ∙ kind in rw n (ap FoundCase.Entry (sym s)))
+        (λ x s k kind. let n : m ≡ true = sym f ∙ sym (kind-key k) ∙ kind in rw n (ap FoundCase.Deleted (sym s)))
 
 -- ---- through the index
 

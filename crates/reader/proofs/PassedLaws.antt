@@ -17,10 +17,10 @@ use Rattle.blocks.specs.Formed.{dataBlock, indexBlock, isHandle, entryFits, all
 use Rattle.blocks.specs.Search.{readable, inOrder}
 use Rattle.blocks.proofs.FormedLaws.{asPair, formed-read, formed-readable}
 use Rattle.table.specs.Checked.{pass}
-use Rattle.table.specs.Table.{Footer, endsBefore, placed, contents, sealed, blockOf, lessOf, sortedIn, sortedAt, handleOf, entriesAt, dataBlockOf, dataBlocksOf, Edge, Opened, opened, fullCheck}
+use Rattle.table.specs.Table.{Footer, endsBefore, placed, contents, sealed, blockOf, lessOf, sortedAt, handleOf, entriesAt, dataBlockOf, dataBlocksOf, Edge, Opened, opened, fullCheck}
 use Rattle.table.specs.Promise.{Passed}
 use Rattle.table.proofs.CheckedLaws.{passing, asking, pass-same, orRefuse-pass}
-use Rattle.table.proofs.StandLaws.{all-entries, block-of, index-read, Laid, laid, stands}
+use Rattle.table.proofs.StandLaws.{all-entries, block-of, sorted-tells, index-read, Laid, laid, stands}
 use Rattle.reader.specs.Parts.{Indexed}
 
 -- ---- where a block may stand
@@ -90,19 +90,15 @@ record IndexRead (t : List ℕ) (h : Handle) (es : List Entry) : Type 0 where
   handles : All (λ (ix : Entry). oneHandle (ix .value) ≡ some (handleOf (ix .value))) es
 
 index-tested : (t : List ℕ) (h : Handle) {es : List Entry} → sortedAt indexBlock t h ≡ pass es → IndexRead t h es
-unfolding sortedAt sortedIn lessOf sealed inOrder entryFits
+unfolding lessOf inOrder entryFits
 index-tested t h {es} p =
-    asking _ _ _ p λ intact p.
-    passing _ _ p λ c read p.
-    asking _ _ _ p λ order p.
-    let formed = orRefuse-pass 10 _ read in
-    let fits = formed-read indexBlock (contents t h) formed .fits in
-    let r : IndexRead t h c = record {
-      reads = formed-readable indexBlock (contents t h) formed;
-      order = is-true _ order;
-      handles = all-imp (λ ix u. one-handle (ix .value) (and-r (within 9 1032 (length (ix .key))) _ u)) (all-entries (entryFits indexBlock) c fits);
-    } in
-    rw (pass-same p) at r
+    let s = sorted-tells indexBlock t h p in
+    let fits = formed-read indexBlock (contents t h) (s .0) .fits in
+    record {
+      reads = formed-readable indexBlock (contents t h) (s .0);
+      order = is-true _ (s .1);
+      handles = all-imp (λ ix u. one-handle (ix .value) (and-r (within 9 1032 (length (ix .key))) _ u)) (all-entries (entryFits indexBlock) es fits);
+    }
 
 pub passed-opens : (t : List ℕ) {offset size : ℕ} → Indexed t offset size → Passed t → Opens t (record { offset = offset; size = size })
 unfolding fullCheck opened

@@ -49,15 +49,12 @@ plain-of P t none-there f = go (footer t) refl
 abbrev pub Apart : Found → Found → Type 0
 Apart x y = T (isAt (y .indexStart) (y .start) x) → ⊥
 
-apart-in : (x y : Found) → x .start < y .start → Apart x y
+apart-by : (x y : Found) → (x .indexStart ≡ y .indexStart → x .start ≡ y .start → ⊥) → Apart x y
 unfolding isAt
-apart-in x y h t =
-    let e = eqb→eq (x .start) (y .start) (and-r (eqb (x .indexStart) (y .indexStart)) (eqb (x .start) (y .start)) t) in omega arith
-
-apart-across : (x y : Found) → x .indexStart < y .indexStart → Apart x y
-unfolding isAt
-apart-across x y h t =
-    let e = eqb→eq (x .indexStart) (y .indexStart) (and-l (eqb (x .indexStart) (y .indexStart)) (eqb (x .start) (y .start)) t) in omega arith
+apart-by x y f t =
+    let i = eqb (x .indexStart) (y .indexStart) in
+    let s = eqb (x .start) (y .start) in
+    f (eqb→eq (x .indexStart) (y .indexStart) (and-l i s t)) (eqb→eq (x .start) (y .start) (and-r i s t))
 
 module _ (t : List ℕ) where
   entries-starts : (h : Handle) → Pairs StartsBefore (entriesAt t h)
@@ -69,7 +66,7 @@ module _ (t : List ℕ) where
 
   block-places : (ix : Entry) → Pairs Apart (foundsOf t ix)
   unfolding foundsOf
-  block-places ix = pairs-map (foundIn ix) (pairs-imp (λ a b h. apart-in (foundIn ix a) (foundIn ix b) h) (entries-starts (handleOf (ix .value))))
+  block-places ix = pairs-map (foundIn ix) (pairs-imp (λ a b h. apart-by (foundIn ix a) (foundIn ix b) (λ e f. omega arith)) (entries-starts (handleOf (ix .value))))
 
   places : {ixs : List Entry} → Pairs StartsBefore ixs → Pairs Apart (readBlocks t ixs)
   unfolding readBlocks
@@ -77,7 +74,7 @@ module _ (t : List ℕ) where
   places (Pairs.cons {x = ix} q qs) =
       let later = all-blocks t {P = λ (x : Found). ix .start < x .indexStart} (λ i h. all-imp (λ x e. rw e h) (of-block i)) q in
       pairs-append (block-places ix)
-      (all-imp (λ x e. all-imp (λ y h. apart-across x y (rw e h)) later) (of-block ix))
+      (all-imp (λ x e. all-imp (λ y h. apart-by x y (λ f g. omega arith)) later) (of-block ix))
       (places qs)
 
 -- from an entry to the next
@@ -135,4 +132,4 @@ module _ (t : List ℕ) where
       all-map (foundIn ix) (all-imp (value-stands h) (entries-of (All (ValueIn (contents t h))) t h All.nil (λ b e. block-values (contents t h) e)))
 
 pub values-stand : valuesStand
-values-stand t x m = all-mem (plain-of (All (Stands t)) t All.nil (λ h. all-blocks t (λ ix s. s) (all-any (entriesAt t h) (block-values-stand t)))) m
+values-stand t x m = all-mem (plain-of (All (Stands t)) t All.nil (λ h. all-blocks t (λ ix s. s) (all-of (entriesAt t h) (λ ix m. block-values-stand t ix)))) m

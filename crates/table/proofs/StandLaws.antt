@@ -12,19 +12,32 @@ use Rattle.codec.proofs.Lists.{All, Pairs, all-head, all-append, all-imp, all-m
 use Rattle.keys.specs.Order.{userOf, byBytes, bytesBelow, Point, pointOf, byPoint, below}
 use Rattle.keys.proofs.OrderLaws.{isEq-eq, Less, _≺_, _≼_, ≼-self, point-laws, bytes-laws, less-upTo-trans, same-upTo, ≼-word, ≺-trans, ≺-≼, ≼-≺, ≼-trans, ≺-weak}
 use Rattle.blocks.specs.Block.{Pair, Entry, pairsOf, lastKeyOf}
-use Rattle.blocks.specs.Formed.{Kind, dataBlock, indexBlock, all, enough, rises}
+use Rattle.blocks.specs.Formed.{Kind, dataBlock, indexBlock, all, enough, wellFormed, rises}
 use Rattle.blocks.proofs.FormedLaws.{asPair, formed-read, rises-pairs}
 use Rattle.blocks.proofs.ReadLaws.{EntryBefore}
 use Rattle.table.specs.Checked.{pass}
-use Rattle.table.specs.Table.{contents, placed, sealed, blockOf, sortedIn, sortedAt, mayHold, Edge, follows, firstFollows, handleOf, dataBlockOf, dataBlocksOf, Opened, opened, fullCheck, Found, foundIn, entriesAt, foundsOf, readBlocks, plain}
+use Rattle.table.specs.Table.{contents, placed, sealed, blockOf, lessOf, sortedIn, sortedAt, mayHold, Edge, follows, firstFollows, handleOf, dataBlockOf, dataBlocksOf, Opened, opened, fullCheck, Found, foundIn, entriesAt, foundsOf, readBlocks, plain}
 use Rattle.table.proofs.CheckedLaws.{passing, asking, pass-same, orRefuse-pass}
+
+-- a block that is well formed
+formed-entries : (t : List ℕ) (h : Handle) (kind : Kind) {es : List Entry} → wellFormed kind (contents t h) ≡ some es → (entriesAt t h ≡ es) × T (enough kind (pairsOf es))
+unfolding entriesAt
+formed-entries t h kind p = let r = formed-read kind (contents t h) p in (rw (r .reads, entriesAt) (r .entries), r .holds)
 
 -- a block that passed
 pub block-of : (t : List ℕ) (h : Handle) (kind : Kind) {es : List Entry} → blockOf t h kind ≡ pass es → (entriesAt t h ≡ es) × T (enough kind (pairsOf es))
-unfolding blockOf entriesAt
-block-of t h kind {es} p =
-    let r = formed-read kind (contents t h) (orRefuse-pass 10 _ p) in
-    (rw (r .reads, entriesAt) (r .entries), r .holds)
+unfolding blockOf
+block-of t h kind p = formed-entries t h kind (orRefuse-pass 10 _ p)
+
+-- and one whose entries are sorted
+pub sorted-tells : (kind : Kind) (t : List ℕ) (h : Handle) {es : List Entry} → sortedAt kind t h ≡ pass es → (wellFormed kind (contents t h) ≡ some es) × T (rises (lessOf kind) (pairsOf es))
+unfolding sortedAt sortedIn sealed
+sorted-tells kind t h p =
+    asking _ _ _ p λ intact p.
+    passing _ _ p λ c read p.
+    asking _ _ _ p λ order p.
+    let e = pass-same p in
+    (orRefuse-pass 10 _ read ∙ ap some e, rw e at order)
 
 abbrev pairsIn : List ℕ → Entry → List Pair
 pairsIn t ix = pairsOf (entriesAt t (handleOf (ix .value)))
@@ -70,12 +83,7 @@ blocks-stand t f before (ix ∷ ixs) p =
     Standing.cons (r .1) (blocks-stand t f (some (edgeOf t ix)) ixs (rw (r .0) p))
 
 pub index-read : (t : List ℕ) (h : Handle) {es : List Entry} → sortedAt indexBlock t h ≡ pass es → entriesAt t h ≡ es
-unfolding sortedAt sortedIn blockOf sealed
-index-read t h {es} p =
-    asking _ _ _ p λ intact p.
-    passing _ _ p λ c read p.
-    asking _ _ _ p λ order p.
-    block-of t h indexBlock read .0 ∙ pass-same p
+index-read t h p = formed-entries t h indexBlock (sorted-tells indexBlock t h p .0) .0
 
 pub open-reading : (t : List ℕ) (o : Opened) → opened t ≡ pass o → plain t ≡ readBlocks t (o .index)
 unfolding opened plain

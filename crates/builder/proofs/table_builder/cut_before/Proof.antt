@@ -5,13 +5,13 @@ use lib.ListN.{length-take}
 use lib.Seq.{length-take-le}
 use borrow.Author.Tests.{not-true, not-false}
 use Rattle.builder.specs.Steps.{lastOf, sepOf, closedState}
-use Rattle.builder.proofs.DecideLaws.{mid-not, mid-cut}
+use Rattle.builder.proofs.DecideLaws.{mid-is}
 use borrow.Author.Needs.{needs}
 use Rattle.builder.proofs.table_builder.cut_before.Statement.{statement}
 use Rattle.builder.proofs.table_builder.cut_before.Tie as tie
 
 returns : tie.Need-returns
-returns c = let a = c .before .before in mid-not (a .args .s) (a .args .key .now) (a .pre .1 .1) (not-true _ (c .if1 .taken))
+returns c = let a = c .before .before in mid-is (a .args .s) (a .args .key .now) (sym (not-true _ (c .if1 .taken)) ∙ a .pre .1 .1)
 
 slice-aggregate-put-separator : tie.Need-slice-aggregate-put-separator
 slice-aggregate-put-separator c = search needs
@@ -32,7 +32,7 @@ returns-2 : tie.Need-returns-2
 unfolding lastOf sepOf
 returns-2 c =
     let a = c .before .before .before .before .before .before .before .before .before .before .before in
-    c .closed .ensures ∙ ap (closedState (a .args .s)) (c .before .before .before .put-separator .ensures .1 .1) ∙ mid-cut (a .args .s) (a .args .key .now) (a .pre .1 .1) (not-false _ (c .before .before .before .before .before .before .before .before .before .if1 .left))
+    c .closed .ensures ∙ ap (closedState (a .args .s)) (c .before .before .before .put-separator .ensures .1 .1) ∙ mid-is (a .args .s) (a .args .key .now) (sym (not-false _ (c .before .before .before .before .before .before .before .before .before .if1 .left)) ∙ a .pre .1 .1)
 
 pub cut-before-spec : {M : Type 1} → statement M
 cut-before-spec =

@@ -1,5 +1,8 @@
 -- `builder::table_builder::name_len` meets its contract.
-use Rattle.builder.proofs.SizeLaws.{name-some}
+use mathlib.Core.Path.{ap}
+use lib.ListN.{length}
+use Rattle.blocks.specs.Formed.{bloomName}
+use Rattle.builder.proofs.SizeLaws.{name-is}
 use Rattle.filter_block.specs.Choice.{choiceOf}
 use Rattle.table.specs.Build.{metaName}
 use borrow.Author.Needs.{needs}
@@ -17,7 +20,8 @@ unfolding metaName choiceOf
 returns c = cc
 
 returns-2 : tie.Need-returns-2
-returns-2 c = name-some _ _ (c .enum-told2 .given .1)
+unfolding metaName choiceOf bloomName
+returns-2 c = ap length (name-is (c .enum-told2 .given .1))
 
 pub name-len-spec : {M : Type 1} → statement M
 name-len-spec = tie.close (tie.spec enum-told enum-told-2 returns returns-2)

@@ -1,5 +1,7 @@
 -- `builder::table_builder::put_key` meets its contract.
-use Rattle.builder.proofs.AddLaws.{key-never, key-put}
+use Rattle.codec.proofs.PutLaws.{front-never, front-put}
+use Rattle.keys.specs.Order.{internal}
+use Rattle.builder.proofs.TraceLaws.{key-short}
 use borrow.Author.Needs.{needs}
 use Rattle.builder.proofs.table_builder.put_key.Statement.{statement}
 use Rattle.builder.proofs.table_builder.put_key.Tie as tie
@@ -19,7 +21,7 @@ same-length c = search needs
 returns : tie.Need-returns
 returns c =
     let a = c .before .before .before .before .before .before .before .before in
-    absurd (key-never (a .args .key .now) (a .args .word .now) (a .args .edition) (a .args .kind) _ _ (a .pre .0) (a .pre .1) (c .before .before .before .before .build-internal-key .ensures) (c .enum-told .given .1))
+    absurd (front-never 1032 (internal (a .args .word .now) (a .args .edition) (a .args .kind)) (a .pre .0) (key-short (a .args .word .now) (a .args .edition) (a .args .kind) (a .pre .1)) (c .before .before .before .before .build-internal-key .ensures) (c .enum-told .given .1))
 
 same-length-2 : tie.Need-same-length-2
 same-length-2 c = search needs
@@ -27,7 +29,7 @@ same-length-2 c = search needs
 returns-2 : tie.Need-returns-2
 returns-2 c =
     let a = c .before .before .before .before .before .before .before .before .before in
-    key-put (a .args .key .now) (a .args .word .now) (a .args .edition) (a .args .kind) _ _ (a .pre .0) (a .pre .1) (c .before .before .before .before .before .build-internal-key .ensures) _ (c .before .n .given .1)
+    front-put 1032 (internal (a .args .word .now) (a .args .edition) (a .args .kind)) (a .pre .0) (key-short (a .args .word .now) (a .args .edition) (a .args .kind) (a .pre .1)) (c .before .before .before .before .before .build-internal-key .ensures) (c .before .n .given .1)
 
 pub put-key-spec : {M : Type 1} → statement M
 put-key-spec =

@@ -5,9 +5,11 @@ use lib.Seq.{length-take-le}
 use Rattle.blocks.specs.Formed.{bloomName}
 use Rattle.table.specs.Build.{metaName}
 use Rattle.codec.specs.Varint.{handleBytes}
+use Rattle.filter_block.specs.Choice.{choiceOf}
 use Rattle.codec.proofs.PutLaws.{front-never, front-put}
 use Rattle.codec.proofs.VarintLaws.{handle-long}
-use Rattle.builder.proofs.FinishLaws.{name-none, name-bits, meta-framed}
+use Rattle.builder.proofs.FinishLaws.{meta-framed}
+use Rattle.builder.proofs.SizeLaws.{name-is}
 use borrow.Author.Needs.{needs}
 use Rattle.builder.proofs.table_builder.put_meta.Statement.{statement}
 use Rattle.builder.proofs.table_builder.put_meta.Tie as tie
@@ -61,21 +63,21 @@ same-length : tie.Need-same-length
 same-length c = search needs
 
 returns-2 : tie.Need-returns-2
-unfolding metaName
+unfolding metaName choiceOf
 returns-2 c =
     let a = c .before .before .before .before .before .before .before .before .before .before .before .before .before .before .before .args in
     let h = front-put 20 (handleBytes (record { offset = a .offset; size = a .size })) refl (handle-long (record { offset = a .offset; size = a .size })) (c .before .before .before .before .before .before .before .before .before .before .before .before .encode-to .ensures) (c .before .before .before .before .before .before .before .before .before .n .given .1) in
-    meta-framed (a .filter) (a .offset) (a .size) (name-none (a .filter) (c .before .before .before .before .before .before .enum-told2 .given .1)) (h .1 .1) (c .before .before .put-one .ensures)
+    meta-framed (a .filter) (a .offset) (a .size) (name-is (c .before .before .before .before .before .before .enum-told2 .given .1)) (h .1 .1) (c .before .before .put-one .ensures)
 
 same-length-2 : tie.Need-same-length-2
 same-length-2 c = search needs
 
 returns-3 : tie.Need-returns-3
-unfolding metaName bloomName
+unfolding metaName bloomName choiceOf
 returns-3 c =
     let a = c .before .before .before .before .before .before .before .before .before .before .before .before .before .before .before .args in
     let h = front-put 20 (handleBytes (record { offset = a .offset; size = a .size })) refl (handle-long (record { offset = a .offset; size = a .size })) (c .before .before .before .before .before .before .before .before .before .before .before .before .encode-to .ensures) (c .before .before .before .before .before .before .before .before .before .n .given .1) in
-    meta-framed (a .filter) (a .offset) (a .size) (name-bits (a .filter) (c .before .before .before .before .before .before .enum-told3 .given .1)) (h .1 .1) (c .before .before .put-one2 .ensures)
+    meta-framed (a .filter) (a .offset) (a .size) (name-is (c .before .before .before .before .before .before .enum-told3 .given .1)) (h .1 .1) (c .before .before .put-one2 .ensures)
 
 pub put-meta-spec : {M : Type 1} → statement M
 put-meta-spec =

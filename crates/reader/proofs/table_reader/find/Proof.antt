@@ -1,8 +1,5 @@
 -- `reader::table_reader::find` meets its contract.
-use Prim.Native.Nat.{ℕ}
 use mathlib.Core.Path.{_∙_}
-use mathlib.Core.List.{List}
-use Rattle.keys.specs.Order.{Point}
 use Rattle.reader.proofs.LocateLaws.{sees-placed, sees-refused}
 use Rattle.reader.proofs.FindLaws.{seek-no-place, find-none, find-block}
 use borrow.Author.Needs.{needs}
@@ -12,19 +9,6 @@ use Rattle.reader.proofs.table_reader.find.Tie as tie
 -- what the index says
 abbrev start : tie.After-seek-index → tie.Start
 start c = c .before .before .before .before .before
-
-abbrev T : tie.After-seek-index → List ℕ
-T c = start c .args .table .now
-
-abbrev point : tie.After-seek-index → Point
-point c = record { word = start c .args .word .now; edition = start c .args .edition }
-
--- the block that it names
-abbrev K : Type 0
-K = tie.After-known-told2
-
-abbrev si : K → tie.After-seek-index
-si c = c .before .before .before .before .before
 
 seek-index-requires : tie.Need-seek-index-requires
 seek-index-requires c κs = search needs
@@ -43,8 +27,9 @@ enum-known-start c = search needs
 
 seek-block-requires : tie.Need-seek-block-requires
 seek-block-requires c κs =
-    let k = c .before in
-    (sees-placed (si k .seek-index .ensures) (k .before .start .given .1), si k .seek-index .kept .1 .1 .1 .1 .1 .0 ∙ start (si k) .pre .1)
+    let k = c .before .before in
+    let l = k .before .before .before .before in
+    (sees-placed (l .seek-index .ensures) (k .start .given .1), l .seek-index .kept .1 .1 .1 .1 .1 .0 ∙ start l .pre .1)
 
 or-later-requires : tie.Need-or-later-requires
 or-later-requires c κs = search needs
@@ -63,7 +48,7 @@ same-length-2 c = search needs
 returns-2 : tie.Need-returns-2
 returns-2 c =
     let l = c .before .before .before .before in
-    find-none (T l) (start l .pre .0) (point l) (l .seek-index .ensures) (c .enum-told .given .1)
+    find-none _ (start l .pre .0) _ (l .seek-index .ensures) (c .enum-told .given .1)
 
 same-length-3 : tie.Need-same-length-3
 same-length-3 c = search needs
@@ -71,17 +56,17 @@ same-length-3 c = search needs
 returns-3 : tie.Need-returns-3
 returns-3 c =
     let l = c .before .before .before .before in
-    seek-no-place (T l) (start l .pre .0) (point l) (l .seek-index .ensures) (c .enum-told2 .given .1) (λ never q. absurd (never q))
+    seek-no-place _ (start l .pre .0) _ (l .seek-index .ensures) (c .enum-told2 .given .1) (λ never q. absurd (never q))
 
 same-length-4 : tie.Need-same-length-4
 same-length-4 c = search needs
 
 returns-4 : tie.Need-returns-4
 returns-4 c =
-    let k = c .before .before .before .before .before .before .before .before in
-    let l = si k in
+    let k = c .before .before .before .before .before .before .before .before .before in
+    let l = k .before .before .before .before in
     let w = c .before .before .before .before .before .before .seek-block .ensures in
-    find-block (T l) (start l .pre .0) (point l) (l .seek-index .ensures) (k .before .start .given .1) w (c .before .before .or-later .ensures (w .answer) (w .shown) (w .holds) (w .inside))
+    find-block _ (start l .pre .0) _ (l .seek-index .ensures) (k .start .given .1) w (c .before .before .or-later .ensures (w .answer) (w .shown) (w .holds) (w .inside))
 
 pub find-spec : {M : Type 1} → statement M
 find-spec =

@@ -1,8 +1,5 @@
 -- `reader::table_reader::look` meets its contract.
-use Prim.Native.Nat.{ℕ}
 use mathlib.Core.Path.{_∙_}
-use mathlib.Core.List.{List}
-use Rattle.keys.specs.Order.{Point}
 use Rattle.reader.proofs.LocateLaws.{sees-placed, sees-refused}
 use Rattle.reader.proofs.AnswerLaws.{tells-short}
 use Rattle.reader.proofs.FindLaws.{seek-no-place}
@@ -14,19 +11,6 @@ use Rattle.reader.proofs.table_reader.look.Tie as tie
 -- what the index says
 abbrev start : tie.After-seek-index → tie.Start
 start c = c .before .before .before .before .before
-
-abbrev T : tie.After-seek-index → List ℕ
-T c = start c .args .table .now
-
-abbrev point : tie.After-seek-index → Point
-point c = record { word = start c .args .word .now; edition = start c .args .edition }
-
--- the block that it names
-abbrev K : Type 0
-K = tie.After-known-told2
-
-abbrev si : K → tie.After-seek-index
-si c = c .before .before .before .before .before
 
 seek-index-requires : tie.Need-seek-index-requires
 seek-index-requires c κs = search needs
@@ -57,13 +41,14 @@ enum-told-4 c = search needs
 
 seek-block-requires : tie.Need-seek-block-requires
 seek-block-requires c κs =
-    let k = c .before .before .before .before in
-    (sees-placed (si k .seek-index .ensures) (k .before .start .given .1), si k .seek-index .kept .1 .1 .1 .1 .1 .0 ∙ start (si k) .pre .2)
+    let k = c .before .before .before .before .before in
+    let l = k .before .before .before .before in
+    (sees-placed (l .seek-index .ensures) (k .start .given .1), l .seek-index .kept .1 .1 .1 .1 .1 .0 ∙ start l .pre .2)
 
 of-word-requires : tie.Need-of-word-requires
 of-word-requires c κs =
-    let k = c .before .before .before .before .before .before .before .before in
-    (c .before .before .before .seek-block .kept .1 .1 .1 .1 .1 .1 .0 ∙ si k .seek-index .kept .1 .1 .1 .1 .1 .0 ∙ start (si k) .pre .2, tells-short (c .before .before .before .seek-block .ensures))
+    let l = c .before .before .before .before .before .before .before .before .before .before .before .before .before in
+    (c .before .before .before .seek-block .kept .1 .1 .1 .1 .1 .1 .0 ∙ l .seek-index .kept .1 .1 .1 .1 .1 .0 ∙ start l .pre .2, tells-short (c .before .before .before .seek-block .ensures))
 
 same-length : tie.Need-same-length
 same-length c = search needs
@@ -79,7 +64,7 @@ same-length-2 c = search needs
 returns-2 : tie.Need-returns-2
 returns-2 c =
     let l = c .before .before .before .before in
-    look-none (T l) (start l .pre .1) (point l) (l .seek-index .ensures) (c .enum-told .given .1)
+    look-none _ (start l .pre .1) _ (l .seek-index .ensures) (c .enum-told .given .1)
 
 same-length-3 : tie.Need-same-length-3
 same-length-3 c = search needs
@@ -87,34 +72,34 @@ same-length-3 c = search needs
 returns-3 : tie.Need-returns-3
 returns-3 c =
     let l = c .before .before .before .before in
-    seek-no-place (T l) (start l .pre .1) (point l) (l .seek-index .ensures) (c .enum-told2 .given .1) (λ never. (λ q. absurd (never q), tt))
+    seek-no-place _ (start l .pre .1) _ (l .seek-index .ensures) (c .enum-told2 .given .1) (λ never. (λ q. absurd (never q), tt))
 
 same-length-4 : tie.Need-same-length-4
 same-length-4 c = search needs
 
 returns-4 : tie.Need-returns-4
 returns-4 c =
-    let k = c .before .before .before .before in
-    let l = si k in
-    look-unheld (T l) (start l .pre .1) (point l) (l .seek-index .ensures) (k .before .start .given .1) (c .before .before .before .may-hold .ensures) (c .before .n2 .given .1)
+    let k = c .before .before .before .before .before in
+    let l = k .before .before .before .before in
+    look-unheld _ (start l .pre .1) _ (l .seek-index .ensures) (k .start .given .1) (c .before .before .before .may-hold .ensures) (c .before .n2 .given .1)
 
 same-length-5 : tie.Need-same-length-5
 same-length-5 c = search needs
 
 returns-5 : tie.Need-returns-5
 returns-5 c =
-    let k = c .before .before .before in
-    let l = si k in
-    look-denied (T l) (start l .pre .1) (point l) (l .seek-index .ensures) (k .before .start .given .1) (c .before .before .may-hold .ensures) (c .enum-told3 .given .1)
+    let k = c .before .before .before .before in
+    let l = k .before .before .before .before in
+    look-denied _ (start l .pre .1) _ (l .seek-index .ensures) (k .start .given .1) (c .before .before .may-hold .ensures) (c .enum-told3 .given .1)
 
 same-length-6 : tie.Need-same-length-6
 same-length-6 c = search needs
 
 returns-6 : tie.Need-returns-6
 returns-6 c =
-    let k = c .before .before .before .before .before .before .before .before .before in
-    let l = si k in
-    look-block (T l) (start l .pre .1) (point l) (l .seek-index .ensures) (k .before .start .given .1) (c .before .before .before .before .seek-block .ensures) (c .of-word .ensures)
+    let k = c .before .before .before .before .before .before .before .before .before .before in
+    let l = k .before .before .before .before in
+    look-block _ (start l .pre .1) _ (l .seek-index .ensures) (k .start .given .1) (c .before .before .before .before .seek-block .ensures) (c .of-word .ensures)
 
 pub look-spec : {M : Type 1} → statement M
 look-spec =

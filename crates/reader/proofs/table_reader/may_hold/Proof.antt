@@ -1,8 +1,6 @@
 -- `reader::table_reader::may_hold` meets its contract.
-use Prim.Native.Nat.{ℕ}
 use mathlib.Core.Path.{sym, _∙_}
 use mathlib.Core.Bool.{true, false}
-use mathlib.Core.List.{List}
 use Rattle.reader.specs.Parts.{heldOf}
 use Rattle.reader.proofs.LookLaws.{held-none, held-far, held-is}
 use borrow.Author.Needs.{needs}
@@ -12,9 +10,6 @@ use Rattle.reader.proofs.table_reader.may_hold.Tie as tie
 -- the metaindex, and the filter that it names
 abbrev start : tie.After-bloom-handle → tie.Start
 start c = c .before .before .before .before
-
-abbrev T : tie.After-bloom-handle → List ℕ
-T c = start c .args .table .now
 
 abbrev K : Type 0
 K = tie.After-known-told
@@ -41,7 +36,7 @@ returns : tie.Need-returns
 returns c =
     let k = c .before .before in
     let h = bh k in
-    held-far (T h) (start h .pre) _ _ (h .before .part-of .ensures) (h .bloom-handle .ensures) (k .before .from .given .1) (sym (c .before .placed .ensures) ∙ c .if1 .left)
+    held-far _ (start h .pre) _ _ (h .before .part-of .ensures) (h .bloom-handle .ensures) (k .before .from .given .1) (sym (c .before .placed .ensures) ∙ c .if1 .left)
 
 bloom-hash-requires : tie.Need-bloom-hash-requires
 bloom-hash-requires c κs = search needs
@@ -55,14 +50,14 @@ may-match-requires c κs = search needs
 returns-2 : tie.Need-returns-2
 returns-2 c =
     let h = c .before .before in
-    held-none (T h) (start h .pre) _ _ (h .before .part-of .ensures) (h .bloom-handle .ensures) (c .enum-told .given .1)
+    held-none _ (start h .pre) _ _ (h .before .part-of .ensures) (h .bloom-handle .ensures) (c .enum-told .given .1)
 
 returns-3 : tie.Need-returns-3
 unfolding heldOf
 returns-3 c =
     let k = c .before .before .before .before .before .before in
     let h = bh k in
-    held-is (T h) (start h .pre) _ _ (h .before .part-of .ensures) (h .bloom-handle .ensures) (k .before .from .given .1) true (c .before .before .part-of2 .ensures)
+    held-is _ (start h .pre) _ _ (h .before .part-of .ensures) (h .bloom-handle .ensures) (k .before .from .given .1) true (c .before .before .part-of2 .ensures)
     (c .before .before .before .bloom-hash .ensures) (sym (c .if2 .taken) ∙ c .before .may-match .ensures)
 
 returns-4 : tie.Need-returns-4
@@ -70,7 +65,7 @@ unfolding heldOf
 returns-4 c =
     let k = c .before .before .before .before .before .before in
     let h = bh k in
-    held-is (T h) (start h .pre) _ _ (h .before .part-of .ensures) (h .bloom-handle .ensures) (k .before .from .given .1) false (c .before .before .part-of2 .ensures)
+    held-is _ (start h .pre) _ _ (h .before .part-of .ensures) (h .bloom-handle .ensures) (k .before .from .given .1) false (c .before .before .part-of2 .ensures)
     (c .before .before .before .bloom-hash .ensures) (sym (c .if2 .left) ∙ c .before .may-match .ensures)
 
 pub may-hold-spec : {M : Type 1} → statement M
