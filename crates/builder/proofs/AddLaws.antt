@@ -13,7 +13,7 @@ use Rattle.table.specs.Options.{Options, Addition, additionFits}
 use Rattle.table.specs.Build.{Building, keyOf, begin, closeBefore, add, finish, above, accept, acceptAll}
 use Rattle.table.proofs.CheckedLaws.{refuse-pass}
 use Rattle.table.specs.Runs.{Runs, between, overlaid, FitsRoom, roomOf}
-use Rattle.table.proofs.AcceptLaws.{fit-parts, took, accept-more}
+use Rattle.table.proofs.AcceptLaws.{took, accept-more}
 use Rattle.table.proofs.SufficeLaws.{runs-suffice}
 use Rattle.builder.specs.declared.table_builder.Answer.{Answer}
 use Rattle.builder.specs.declared.table_builder.Answer.the-variants as AnswerCase
@@ -245,9 +245,6 @@ module _ (s : Builder) (r : Runs) (a : Addition) where
             refused = λ m y. g .kept (λ k. let v = sym (no-refusal k) ∙ y in apart cc);
             traced = traced-is;
           }
-
-pub word-short : (a : Addition) → additionFits a ≡ true → length (a .word) ≤ 1024
-word-short a f = fit-parts a f .high
 
 pub add-is-ready : (s : Builder) (r : Runs) (a : Addition) → (sane s (lengthsOf r) ≡ true) × (additionFits a ≡ true) → {n : ℕ} → n ≤ 1032 → Ready s (lengthsOf r) n (length (a .value))
 add-is-ready s r a f h = record { sound = f .0; key = h; value = addition-short a (f .1) .1 }

@@ -8,10 +8,10 @@ use Rattle.codec.proofs.Prelude.{apart, true-is}
 use Rattle.table.specs.Checked.{Checked, pass, refuse}
 use Rattle.table.specs.Options.{Options, Addition}
 use Rattle.table.specs.Build.{Building, begin, accept, acceptAll, finish}
-use Rattle.table.specs.Runs.{Runs, roomOf, startOf, held, between, finished, overlay, overlaid, FitsRoom}
+use Rattle.table.specs.Runs.{Runs, roomOf, startOf, held, between, finished, overlay, FitsRoom}
 use Rattle.table.proofs.SufficeLaws.{runs-suffice, Began, began}
 use Rattle.table.proofs.AcceptLaws.{accept-last, accept-more, round-trip}
-use Rattle.table.proofs.OverlayLaws.{overlay-front, overlay-long}
+use Rattle.table.proofs.OverlayLaws.{overlay-front, overlay-long, each}
 use Rattle.builder.specs.declared.table_builder.Answer.the-variants as AnswerCase
 use Rattle.builder.specs.declared.table_builder.Options as Given
 use Rattle.builder.specs.declared.table_builder.Builder.{Builder}
@@ -45,7 +45,7 @@ stood-add {o} {xs} {s} {r} {r′} {a} {x} h d e =
     let room = roomOf (length (r .out)) in
     let more : acceptAll o room begin (xs ++ (a ∷ [])) ≡ pass c = accept-more o room begin xs a (h .last) c (h .accepts) q in
     let f : FitsRoom room (between o c) = runs-suffice o room (xs ++ (a ∷ [])) c (true-is (start-is h .fits)) (start-is h .least) more .0 in
-    let n : length (r′ .out) ≡ length (r .out) = overlay-long (between o c .out) (r′ .out) (r .out) (unfold overlaid in ap (λ (z : Runs). z .out) (t .runs c q)) (omega (arith, f .out, start-is h .rooms .out)) in
+    let n : length (r′ .out) ≡ length (r .out) = overlay-long (between o c .out) (r′ .out) (r .out) (each (t .runs c q) .out) (omega (arith, f .out, start-is h .rooms .out)) in
     record { last = c; accepts = ap (λ (m : ℕ). acceptAll o (roomOf m) begin (xs ++ (a ∷ []))) n ∙ more; stands = t .stands c q }
 
 stood : {o : Given.Options} {xs : List Addition} {s : Builder} {r : Runs} → Calls o xs s r → Stood (optionsOf o) xs s r
@@ -74,7 +74,7 @@ finished-reads o xs t w =
     let b = h .last in
     let q = optionsOf o in
     let n : w .size ≡ length (finish q b) = (let z : OutcomeCase.Size (w .size) ≡ OutcomeCase.Size (length (finish q b)) = sym (w .answer) ∙ w .is .answer q xs b (h .accepts) (h .stands) in cc) in
-    let out : w .left .out ≡ overlay (finish q b) (w .runs .out) = unfold overlaid finished held in ap (λ (z : Runs). z .out) (w .is .runs q xs b (h .accepts) (h .stands)) in
+    let out : w .left .out ≡ overlay (finish q b) (w .runs .out) = unfold finished held in each (w .is .runs q xs b (h .accepts) (h .stands)) .out in
     let t-is : finish q b ≡ t = sym (w .table ∙ ap (λ (m : ℕ). take m (w .left .out)) n ∙ overlay-front (finish q b) (w .left .out) (w .runs .out) out) in
     round-trip q (roomOf (length (w .runs .out))) xs t
     (record { fits = true-is (start-is h .fits); limited = start-is h .rooms .limit; last = b; accepts = h .accepts; finishes = t-is })

@@ -7,7 +7,8 @@ use Rattle.table.specs.Options.{Addition}
 use Rattle.table.specs.Build.{keyOf}
 use Rattle.table.specs.Runs.{Runs}
 use Rattle.builder.specs.State.{seven, lengthsOf}
-use Rattle.builder.proofs.AddLaws.{add-refused, add-ready, add-put, put-refused, put-done, word-short, add-is-ready}
+use Rattle.table.proofs.AcceptLaws.{fit-parts}
+use Rattle.builder.proofs.AddLaws.{add-refused, add-ready, add-put, put-refused, put-done, add-is-ready}
 use borrow.Author.Needs.{needs}
 use Rattle.builder.proofs.table_builder.Builder.add.Statement.{statement}
 use Rattle.builder.proofs.table_builder.Builder.add.Tie as tie
@@ -33,7 +34,7 @@ slice-aggregate-put-key c = search needs
 
 put-key-requires : tie.Need-put-key-requires
 unfolding lengthsOf
-put-key-requires c κs = let a = c .before .before .before .before .before .before .before .before .before .before .before .before .before in (search needs, word-short (given a) (add-ready (a .args .self) (runs a) (given a) (c .before .before .before .addition-fits .ensures) (c .before .before .early .ensures) (c .before .if1 .left) .1))
+put-key-requires c κs = let a = c .before .before .before .before .before .before .before .before .before .before .before .before .before in (search needs, fit-parts (given a) (add-ready (a .args .self) (runs a) (given a) (c .before .before .before .addition-fits .ensures) (c .before .before .early .ensures) (c .before .if1 .left) .1) .high)
 
 array-share-prefix-key : tie.Need-array-share-prefix-key
 array-share-prefix-key c = search needs
