@@ -1,5 +1,5 @@
 -- One entry, read in the code's steps: its three numbers, the two tests, and its key written over the key before.
-use Prim.Native.Nat.{ℕ, _+_, _-_, _≤_, _<_, min}
+use Prim.Native.Nat.{ℕ, suc, _+_, _-_, _/_, _≤_, _<_, min}
 use mathlib.Core.Path.{_≡_, refl, sym, ap, _∙_}
 use mathlib.Core.List.{List, [], _++_}
 use mathlib.Core.Bool.{Bool, true, false}
@@ -7,8 +7,8 @@ use mathlib.Core.Option.{Option, none, some, Option·some-inj}
 use native.Mathlib.Nat.{zero-add}
 use native.Mathlib.Omega.{arith}
 use lib.Dec.{leb, leb→le}
-use lib.ListN.{length, take, drop, length-append, length-take, length-drop}
-use lib.Seq.{take-at, take-take, drop-drop}
+use lib.ListN.{length, take, drop, getD, length-append, length-take, length-drop}
+use lib.Seq.{take-at, take-take, drop-drop, drop-cons}
 use borrow.Author.Tests.{leb-true, le-leb, lt-leb}
 use Rattle.codec.specs.declared.varint.VarintRead.the-variants as VarintCase
 use Rattle.codec.specs.Answers.{varintAnswer}
@@ -21,6 +21,7 @@ use Rattle.codec.proofs.MaybeLaws.{getting, giving, gets}
 use Rattle.codec.proofs.Prelude.{test, apart, came-of}
 use Rattle.codec.proofs.PutLaws.{put-room, put-full}
 use Rattle.codec.proofs.VarintCode.{varint-said, varint-within}
+use Rattle.codec.proofs.VarintLaws.{from-last, varint-some}
 use Rattle.block_reader.specs.declared.block.EntryRead.{EntryRead}
 use Rattle.block_reader.specs.declared.block.EntryRead.the-variants as EntryCase
 use Rattle.block_reader.specs.declared.block.HeadRead.{HeadRead}
@@ -82,6 +83,20 @@ module _ (s : List ℕ) where
               length-drop a s,
               length-drop (a + b) s,
             )
+
+-- each is one byte
+
+one-byte : (s : List ℕ) (i : ℕ) → i < length s → getD s i 0 < 128 → varint (drop i s) ≡ some (record { value = getD s i 0; size = 1 })
+one-byte s i l h = rw (drop-cons s i 0 l) (varint-some _ _ (from-last 9 (getD s i 0) (drop (suc i) s) h) (omega arith))
+
+pub short-head : (s : List ℕ) → 3 ≤ length s → getD s 0 0 / 128 + getD s 1 0 / 128 + getD s 2 0 / 128 ≡ 0
+    → HeadCase.Head (getD s 0 0) (getD s 1 0) (getD s 2 0) 3 ≡ headAnswer (head s)
+unfolding headAnswer head _>>=_
+short-head s l h =
+    let p = one-byte s 0 (omega arith) (omega arith) in
+    let q = one-byte s 1 (omega arith) (omega arith) in
+    let r = one-byte s 2 (omega arith) (omega arith) in
+    cc
 
 -- ---- the two tests
 

@@ -98,7 +98,7 @@ enum Probe {
 }
 
 // The numbers that start the rest of a block, each read from what is left after the one before.
-fn read_head(rest: &[u8]) -> HeadRead
+fn long_head(rest: &[u8]) -> HeadRead
     ensures { λ r. ⌜ r ≡ headAnswer (head (now (rest .entry))) ⌝ }
 {
     let VarintRead::Value {
@@ -125,6 +125,27 @@ fn read_head(rest: &[u8]) -> HeadRead
         fresh,
         value,
         size: a + b + c,
+    }
+}
+
+// The same; mostly each of the three is one byte.
+fn read_head(rest: &[u8]) -> HeadRead
+    ensures { λ r. ⌜ r ≡ headAnswer (head (now (rest .entry))) ⌝ }
+{
+    if rest.len() < 3 {
+        return long_head(rest);
+    }
+    let shared = rest[0] as usize;
+    let fresh = rest[1] as usize;
+    let value = rest[2] as usize;
+    if shared / 128 + fresh / 128 + value / 128 != 0 {
+        return long_head(rest);
+    }
+    HeadRead::Head {
+        shared,
+        fresh,
+        value,
+        size: 3,
     }
 }
 
