@@ -1,5 +1,5 @@
 -- What the block builder's code goes by: what it decides, and what its writes one after the other leave.
-use Prim.Native.Nat.{ℕ, suc, _+_, _*_, _-_, _^_, _≤_, _<_, min}
+use Prim.Native.Nat.{ℕ, suc, _+_, _*_, _-_, _^_, _≤_, _<_, min, max}
 use mathlib.Core.Path.{_≡_, refl, sym, ap, _∙_}
 use mathlib.Core.List.{List, [], _∷_, _++_}
 use mathlib.Core.Bool.{Bool, true, false, _&&_, cond, and-false}
@@ -17,9 +17,9 @@ use Rattle.codec.proofs.PutLaws.{put-sets, put-full, put-nil}
 use Rattle.block_builder.specs.declared.block_builder.BlockBuilder.{BlockBuilder}
 use Rattle.block_builder.specs.declared.block_builder.Plan.the-variants.{Entry, Full}
 use Rattle.blocks.specs.Block.{headBytes, entryBytes, sharing, since, orZero, tailBytes}
-use Rattle.blocks.specs.Count.{BlockCount, varintSize, entrySize, countEntry}
+use Rattle.blocks.specs.Count.{BlockCount, varintSize, entrySize, countEntry, countSize}
 use Rattle.block_builder.specs.Builder.{countIn, builderWith, builderAfter, countsFit, countable, CountedIs, isRestart, nextBytes, nextRestart, addable, AddedIs}
-use Rattle.block_builder.specs.Plan.{planOf, roomFor}
+use Rattle.block_builder.specs.Plan.{planOf, sizeWith, roomFor}
 use Rattle.blocks.proofs.BuildLaws.{sharing-shares}
 use Rattle.blocks.proofs.CountLaws.{entry-long}
 
@@ -191,6 +191,20 @@ entry-planned true s x y z s′ c e =
     let r : z ≡ c .since = cc in
     (refl, cc, λ i. record { bytes = p i; restarts = q i; since = r i; last = c .last })
 entry-planned false s x y z s′ c e = absurd (never-full s x y z (sym e))
+
+-- the size with it, by the plan
+module _ (i : ℕ) (b : BlockCount) (key : List ℕ) (value : ℕ) where
+  pub sized-none : planOf i b key value ≡ Full → 2 ^ 64 - 1 ≡ sizeWith i b key value
+  unfolding planOf sizeWith
+  sized-none e =
+      let c = countEntry i b key value in
+      rw (full-by (leb (length key) 1032 && countsFit c) (sharing i (b .since) (b .last) key) (c .bytes) (c .restarts) (c .since) e)
+
+  pub sized-some : {s x y z r : ℕ} → planOf i b key value ≡ Entry s x y z → r ≡ min (2 ^ 64 - 1) (x + 4 * max 1 y + 4) → r ≡ sizeWith i b key value
+  unfolding planOf sizeWith countSize
+  sized-some {s} {x} {y} {z} e h =
+      let p = entry-planned (leb (length key) 1032 && countsFit (countEntry i b key value)) s x y z _ (countEntry i b key value) e in
+      h ∙ ap (λ (c : BlockCount). min (2 ^ 64 - 1) (c .bytes + 4 * max 1 (c .restarts) + 4)) (p .2) ∙ rw (p .0)
 
 -- a plan of an entry says what it shares and the counts with it
 pub record Planned (b : BlockBuilder) (key : List ℕ) (value s x y z : ℕ) : Type 0 where

@@ -4,14 +4,14 @@
 ghost use mathlib.Core.Path.{_≡_};
 ghost use mathlib.Core.Bool.{cond};
 ghost use mathlib.Core.List.{[], _∷_, _++_};
-ghost use Prim.Native.Nat.{_+_, _-_, _^_, _≤_, _<_, min, max};
+ghost use Prim.Native.Nat.{_+_, _*_, _-_, _^_, _≤_, _<_, min, max};
 ghost use lib.ListN.{length, take};
 ghost use Rattle.codec.specs.Bytes.{bytesOf, fours};
 ghost use Rattle.codec.specs.Put.{put, Wrote};
 ghost use Rattle.blocks.specs.Block.{headBytes, entryBytes, sharing, tailBytes};
 ghost use Rattle.blocks.specs.Count.{countSize};
 ghost use Rattle.block_builder.specs.Builder.{countIn, newBuilder, builderWith, CountedIs, AddedIs};
-ghost use Rattle.block_builder.specs.Plan.{planOf, roomFor};
+ghost use Rattle.block_builder.specs.Plan.{planOf, roomFor, sizeWith};
 use codec::fixed::write_u32;
 use codec::fixed::write_u32s;
 use codec::limits::least;
@@ -123,6 +123,46 @@ fn decide(
         bytes: bytes + size,
         restarts: restarts + 1,
         since: 1,
+    }
+}
+
+// The size of a block of so many entry bytes and restarts, held at the largest number.
+fn block_size(bytes: usize, restarts: usize) -> usize
+    ensures { λ r. ⌜ r ≡ min (2 ^ 64 - 1) (bytes + 4 * max 1 restarts + 4) ⌝ }
+{
+    let n = restart_count(restarts);
+    if 4611686018427387902 < n {
+        return MOST;
+    }
+    let tail = 4 * n + 4;
+    if MOST - tail < bytes {
+        return MOST;
+    }
+    bytes + tail
+}
+
+// The block's size with one entry more, were it finished then, held at the largest number; and that where the entry cannot be
+// counted. The counts and the first len bytes of last are those of a builder; nothing of it is copied.
+pub fn size_with(
+    interval: usize,
+    bytes: usize,
+    restarts: usize,
+    since: usize,
+    last: &[u8],
+    len: usize,
+    key: &[u8],
+    value_len: usize,
+) -> usize
+    ensures { λ r. ⌜ r ≡ sizeWith interval (record { bytes = bytes; restarts = restarts; since = since; last = take len (now (last .entry)) }) (now (key .entry)) «value_len» ⌝ }
+{
+    match decide(interval, bytes, restarts, since, last, len, key, value_len) {
+        Plan::Full => MOST,
+        Plan::Entry {
+            shared: _,
+            bytes: more,
+            restarts: marks,
+            since: _,
+        } => block_size(more, marks),
     }
 }
 
@@ -242,15 +282,7 @@ impl BlockBuilder {
     pub fn size_estimate(self) -> usize
         ensures { λ r. ⌜ r ≡ min (2 ^ 64 - 1) (countSize (countIn self)) ⌝ }
     {
-        let n = restart_count(self.restarts);
-        if 4611686018427387902 < n {
-            return MOST;
-        }
-        let tail = 4 * n + 4;
-        if MOST - tail < self.bytes {
-            return MOST;
-        }
-        self.bytes + tail
+        block_size(self.bytes, self.restarts)
     }
 
     // The counts with one entry more; nothing is written.

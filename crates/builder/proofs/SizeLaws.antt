@@ -2,24 +2,23 @@
 use Prim.Native.Nat.{ℕ, zero, suc, _+_, _*_, _/_, _^_, _-_, _≤_, _<_, min}
 use mathlib.Core.Path.{_≡_, refl, sym, ap, ap₂, _∙_}
 use mathlib.Core.List.{List}
-use mathlib.Core.Bool.{true}
+use mathlib.Core.Bool.{true, _&&_}
 use native.Mathlib.Nat.{mul-le-mul-left}
 use native.Mathlib.Omega.{arith}
 use lib.Dec.{eqb, leb, ltb}
-use lib.ListN.{length, take}
+use lib.ListN.{length}
 use borrow.Author.Tests.{le-leb, leb-true, eqb-false, eqb-true}
 use Rattle.codec.specs.Varint.{varintBytes, varintBytesF}
-use Rattle.codec.specs.Put.{put}
 use Rattle.codec.proofs.Prelude.{test, split, both}
-use Rattle.codec.proofs.PutLaws.{put-start}
 use Rattle.codec.proofs.VarintLaws.{varint-bytes-length}
 use Rattle.block_builder.specs.declared.block_builder.BlockBuilder.{BlockBuilder}
 use Rattle.block_builder.specs.declared.block_builder.Counted.{Counted}
 use Rattle.blocks.specs.Block.{since, sharing}
 use Rattle.blocks.specs.Formed.{bloomName}
 use Rattle.blocks.specs.Count.{BlockCount, noEntries, varintSize, entrySize, countEntry, countSize}
-use Rattle.block_builder.specs.Builder.{countIn, newBuilder, builderWith, builderAfter, countable, CountedIs}
-use Rattle.block_builder.proofs.BuilderLaws.{counting-none}
+use Rattle.block_builder.specs.Builder.{countIn, newBuilder, builderWith, builderAfter, countsFit, countable, CountedIs}
+use Rattle.block_builder.specs.Plan.{sizeWith}
+use Rattle.block_builder.proofs.BuilderLaws.{counting-none, counts-with}
 use Rattle.block_builder.proofs.BuilderCode.{fits-all}
 use Rattle.blocks.proofs.CountLaws.{count-none, entry-restarts}
 use Rattle.filter_block.specs.declared.filter.Filter as FilterEnum
@@ -34,8 +33,9 @@ use Rattle.table.specs.Counts.{handleSize, countClose, countCloseLast, metaSize
 use Rattle.table.proofs.AcceptLaws.{within-parts, option-parts}
 use Rattle.builder.specs.declared.table_builder.Builder.{Builder}
 use Rattle.builder.specs.declared.table_builder.FilterSizes.{FilterSizes}
+use Rattle.builder.specs.declared.table_builder.Sizes.{Sizes}
 use Rattle.builder.specs.State.{optionsOf, countsIn}
-use Rattle.builder.specs.Steps.{small, Small, filterCountIn, filtersIn, openSize, lastOf, endsAt, filtersThen, closedState, Roomy, enteredState, lastState, metaLen, Whole}
+use Rattle.builder.specs.Steps.{small, Small, filterCountIn, filtersIn, openSize, lastOf, endsAt, filtersThen, closedState, Roomy, enteredState, lastState, metaLen, endSize, sizesIn, Whole}
 
 -- ---- one entry more
 
@@ -64,11 +64,8 @@ counted-is h e = h .block ∙ rw e
 
 -- a builder after an entry holds the counts after it
 pub count-after : (b : BlockBuilder) (key : List ℕ) (v : ℕ) → length key ≤ 1032 → length (b .last) ≡ 1032 → countIn (builderAfter b key v) ≡ countEntry (b .interval) (countIn b) key v
-unfolding countIn builderAfter builderWith countEntry
-count-after b key v h l =
-    let c = countEntry (b .interval) (countIn b) key v in
-    let k : take (length key) (put (b .last) 0 key) ≡ key = put-start (b .last) key (length key) refl (omega arith) in
-    λ i. record { bytes = c .bytes; restarts = c .restarts; since = c .since; last = k i }
+unfolding builderAfter countEntry
+count-after b key v h l = counts-with b (countEntry (b .interval) (countIn b) key v) (omega arith)
 
 -- ---- filters
 
@@ -270,20 +267,18 @@ module _ (s : Builder) (h : Small s) (w : Whole s) where
   unfolding countsIn filterBlockSize filterCountIn
   block-size c d f ef = sym (ap filterBlockSize ef)
 
-  pub finished-is : length (lastOf s) ≤ 1032 → (d : Builder) (f : FilterSizes) {meta index : ℕ} → d ≡ lastState s
+  pub finished-is : length (lastOf s) ≤ 1032 → (d : Builder) (f : FilterSizes) {index : ℕ} → d ≡ lastState s
       → filterCountIn f ≡ countLast (choiceOf (s .options .filter)) (record { bytes = d .filtered; made = d .made; waiting = d .waiting })
-      → meta ≡ metaLen (choiceOf (s .options .filter)) (d .written) (f .bytes + 4 * f .made + 5)
-      → index ≡ min (2 ^ 64 - 1) (countSize (countIn (d .indexed)))
-      → d .written + (f .bytes + 4 * f .made + 5 + 5) + (meta + 5) + (index + 5) + 48 ≡ finishedSize o (countsIn s)
-  unfolding finishedSize
-  finished-is k d f {meta} {index} e ef em ei =
-      let b = bounded-last s h k e in
+      → index ≡ countSize (countIn (d .indexed))
+      → endSize (choiceOf (s .options .filter)) (d .written) (f .bytes + 4 * f .made + 5) index ≡ finishedSize o (countsIn s)
+  unfolding finishedSize endSize
+  finished-is k d f {index} e ef i =
       let c = choiceOf (s .options .filter) in
-      let i : index ≡ countSize (countIn (d .indexed)) = unfold countSize countIn in omega (arith, b .indexBytes, b .indexRestarts) in
       let q : countsIn d ≡ countCloseLast o (countsIn s) = rw e (last-counts k) in
       let g = block-size c d f ef in
-      let m : meta ≡ metaSize o (countsIn d .written) (filterBlockSize (countLast c (countsIn d .filters))) = unfold metaSize metaLen optionsOf countsIn in em ∙ ap (λ (n : ℕ). metaLen c (d .written) n) (sym g) in
-      rw (← q) (total d f meta index i g m)
+      let m : metaLen c (d .written) (f .bytes + 4 * f .made + 5) ≡ metaSize o (countsIn d .written) (filterBlockSize (countLast c (countsIn d .filters))) =
+      unfold metaSize metaLen optionsOf countsIn in ap (λ (n : ℕ). metaLen c (d .written) n) (sym g) in
+      rw (← q) (total d f (metaLen c (d .written) (f .bytes + 4 * f .made + 5)) index i g m)
 
 module _ (s : Builder) (h : Small s) where
   -- its sums have 64 bits
@@ -305,6 +300,89 @@ module _ (s : Builder) (h : Small s) where
       let x : f .bytes ≤ 2 ^ 31 = omega (arith, ap (λ (z : FilterCount). z .bytes) ef, last-most c q .0) in
       let y : f .made ≤ 2 ^ 40 = omega (arith, ap (λ (z : FilterCount). z .made) ef, last-most c q .1) in
       (omega arith, omega arith, omega (arith, b .written), omega (arith, b .indexBytes, b .indexRestarts))
+
+  pub index-exact : length (lastOf s) ≤ 1032 → (d : Builder) {n : ℕ} → d ≡ lastState s → n ≡ min (2 ^ 64 - 1) (countSize (countIn (d .indexed)))
+      → n ≡ countSize (countIn (d .indexed))
+  unfolding countSize countIn
+  index-exact k d e i = let b = bounded-last s h k e in omega (arith, b .indexBytes, b .indexRestarts)
+
+-- ---- the sizes alone
+
+module _ (s : Builder) (h : Small s) (key : List ℕ) (k : length key ≤ 1032) where
+  abbrev counts : ℕ → BlockCount
+  counts v = countEntry (s .indexed .interval) (countIn (s .indexed)) key v
+
+  can-count : (v : ℕ) → v ≤ 20 → (leb (length key) 1032 && countsFit (counts v)) ≡ true
+  unfolding countable
+  can-count v l = index-countable s h key k v l
+
+  with-entry : (v : ℕ) → v ≤ 20 → sizeWith (s .indexed .interval) (countIn (s .indexed)) key v ≡ min (2 ^ 64 - 1) (countSize (counts v))
+  unfolding sizeWith
+  with-entry v l = rw (can-count v l)
+
+  index-after : countSize (countIn (closedState s key .indexed)) ≡ countSize (counts (handleSize (s .written) (openSize s)))
+  unfolding closedState builderAfter builderWith countIn countSize countEntry
+  index-after = refl
+
+  index-most : countSize (countIn (closedState s key .indexed)) ≤ 2 ^ 40
+  unfolding countSize countIn
+  index-most = let b = bounded-closed s h key k in omega (arith, b .indexBytes, b .indexRestarts)
+
+  index-size : {v more : ℕ} → v ≤ 20 → v ≡ handleSize (s .written) (openSize s) → more ≡ sizeWith (s .indexed .interval) (countIn (s .indexed)) key v
+      → more ≡ countSize (countIn (closedState s key .indexed))
+  index-size {v} {more} l ev em =
+      let m = em ∙ with-entry v l in
+      let e : countSize (counts v) ≡ countSize (counts (handleSize (s .written) (openSize s))) = ap (λ (n : ℕ). countSize (counts n)) ev in
+      omega (arith, m, e, index-after, index-most)
+
+  handle-is : {size a b : ℕ} → size ≡ openSize s → a ≡ length (varintBytes (s .written)) → b ≡ length (varintBytes size) → a + b ≡ handleSize (s .written) (openSize s)
+  unfolding handleSize
+  handle-is x ea eb = ap₂ _+_ ea (eb ∙ ap (λ (n : ℕ). length (varintBytes n)) x)
+
+  pub closed-sizes-are : {size a b more : ℕ} {f : FilterSizes}
+      → size ≡ min (2 ^ 64 - 1) (countSize (countIn (s .pending))) → a ≡ length (varintBytes (s .written)) → b ≡ length (varintBytes size)
+      → more ≡ sizeWith (s .indexed .interval) (countIn (s .indexed)) key (a + b)
+      → filterCountIn f ≡ countMade (choiceOf (s .options .filter)) ((s .written + size + 5) / 2048) (record { bytes = s .filtered; made = s .made; waiting = s .waiting })
+      → _≡_ {A = Sizes}
+      (record { written = s .written + size + 5; index = more; filtered = f .bytes; made = f .made; waiting = f .waiting })
+      (sizesIn (closedState s key))
+  closed-sizes-are {size} {a} {b} {more} {f} es ea eb em ef =
+      let x : size ≡ openSize s = size-exact s h es in
+      let v = handle-is x ea eb in
+      let i = index-size (omega (arith, varint-bytes-length (s .written), varint-bytes-length size)) v em in
+      let g = ef ∙ ap (λ (n : ℕ). countMade (choiceOf (s .options .filter)) ((s .written + n + 5) / 2048) (record { bytes = s .filtered; made = s .made; waiting = s .waiting })) x in
+      go x i g
+    where
+      go : {size more : ℕ} {f : FilterSizes} → size ≡ openSize s → more ≡ countSize (countIn (closedState s key .indexed))
+          → filterCountIn f ≡ countMade (choiceOf (s .options .filter)) ((s .written + openSize s + 5) / 2048) (record { bytes = s .filtered; made = s .made; waiting = s .waiting })
+          → _≡_ {A = Sizes}
+          (record { written = s .written + size + 5; index = more; filtered = f .bytes; made = f .made; waiting = f .waiting })
+          (sizesIn (closedState s key))
+      go x i g =
+          unfold sizesIn closedState endsAt filtersThen countUpTo filtersIn filterCountIn in
+          λ j. record { written = s .written + x j + 5; index = i j; filtered = g j .bytes; made = g j .made; waiting = g j .waiting }
+
+module _ (s : Builder) (h : Small s) where
+  pub sizes-none : s .pending .restarts ≡ 0 → {n : ℕ} → n ≡ min (2 ^ 64 - 1) (countSize (countIn (s .indexed)))
+      → _≡_ {A = Sizes} (record { written = s .written; index = n; filtered = s .filtered; made = s .made; waiting = s .waiting }) (sizesIn (lastState s))
+  unfolding sizesIn
+  sizes-none z {n} e =
+      let i : n ≡ countSize (countIn (s .indexed)) = unfold countSize countIn in omega (arith, h .indexBytes, h .indexRestarts) in
+      rw (← last-none s z) (λ j. record { written = s .written; index = i j; filtered = s .filtered; made = s .made; waiting = s .waiting })
+
+  module _ (k : length (lastOf s) ≤ 1032) (z : Sizes) (e : z ≡ sizesIn (lastState s)) where
+    pub sizes-room : (z .filtered + filterBytesOf (choiceOf (s .options .filter)) (z .waiting) ≤ 2 ^ 31) × (z .made ≤ 2 ^ 30)
+    unfolding sizesIn
+    sizes-room = rw e (last-room s h k (lastState s) refl)
+
+    module _ (f : FilterSizes) (ef : filterCountIn f ≡ countLast (choiceOf (s .options .filter)) (record { bytes = z .filtered; made = z .made; waiting = z .waiting })) where
+      pub sizes-fit : (z .written ≤ 2 ^ 40) × (f .bytes ≤ 2 ^ 40) × (f .made ≤ 2 ^ 40) × (z .index ≤ 2 ^ 40)
+      unfolding sizesIn
+      sizes-fit = let r = last-sizes s h k (lastState s) f refl (rw e at ef) in rw e (r .2, r .0, r .1, r .3)
+
+      pub sizes-finished : Whole s → endSize (choiceOf (s .options .filter)) (z .written) (f .bytes + 4 * f .made + 5) (z .index) ≡ finishedSize (optionsOf (s .options)) (countsIn s)
+      unfolding sizesIn
+      sizes-finished w = rw e (finished-is s h w k (lastState s) f refl (rw e at ef) refl)
 
 -- the name and the metaindex's size
 pub meta-is : (c : Filtering) (offset size a b n x y : ℕ) → a ≡ varintSize offset → b ≡ varintSize size → n ≡ length (metaName c) → x ≡ varintSize n → y ≡ varintSize (a + b)

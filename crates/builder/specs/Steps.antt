@@ -19,6 +19,7 @@ use Rattle.table.specs.Counts.{handleSize, finishedSize}
 use Rattle.builder.specs.declared.table_builder.Lengths.{Lengths}
 use Rattle.builder.specs.declared.table_builder.Builder.{Builder}
 use Rattle.builder.specs.declared.table_builder.Plan.{Plan}
+use Rattle.builder.specs.declared.table_builder.Sizes.{Sizes}
 use Rattle.builder.specs.declared.table_builder.Ending.{Ending}
 use Rattle.builder.specs.declared.table_builder.FilterSizes.{FilterSizes}
 use Rattle.builder.specs.State.{optionsOf, countsIn, sane}
@@ -131,6 +132,14 @@ pub record Whole (s : Builder) : Type 0 where
 -- the metaindex block's bytes
 unfoldable pub metaLen : Filtering → ℕ → ℕ → ℕ
 metaLen c offset size = entrySize 0 (length (metaName c)) (handleSize offset size) + 8
+
+-- data blocks; filter block, metaindex and index block of such sizes with their trailers; the footer
+unfoldable pub endSize : Filtering → ℕ → ℕ → ℕ → ℕ
+endSize c written filter index = written + (filter + 5) + (metaLen c written filter + 5) + (index + 5) + 48
+
+-- what that is reckoned from in a state
+unfoldable pub sizesIn : Builder → Sizes
+sizesIn s = record { written = s .written; index = countSize (countIn (s .indexed)); filtered = s .filtered; made = s .made; waiting = s .waiting }
 
 -- ---- an addition
 

@@ -3,7 +3,7 @@
 ghost use mathlib.Core.Path.{_≡_};
 ghost use mathlib.Core.Bool.{true, _&&_};
 ghost use mathlib.Core.List.{[], _∷_};
-ghost use Prim.Native.Nat.{_+_, _^_, _≤_, _<_};
+ghost use Prim.Native.Nat.{_+_, _*_, _^_, _≤_, _<_};
 ghost use lib.Dec.{leb};
 ghost use lib.ListN.{length, take};
 ghost use Rattle.codec.specs.Put.{put};
@@ -23,7 +23,7 @@ ghost use Rattle.table.specs.Runs.{roomOf};
 ghost use Rattle.table.specs.Counts.{finishedSize};
 ghost use Rattle.builder.specs.State.{optionsOf, countsIn, seven, runsFit, sameLengths, sizesFit, sane, begun, noBuilder};
 ghost use Rattle.builder.specs.Answers.{StartedIs, AddedIs, FinishedIs};
-ghost use Rattle.builder.specs.Steps.{small, Small, filterCountIn, closedState, lastOf, Roomy, enteredState, lastState, metaLen, Whole, cutOf, midOf, aboveLast, fitsOf, earlyOf, Ready, DecidedIs, EndingIs};
+ghost use Rattle.builder.specs.Steps.{small, Small, filterCountIn, closedState, Roomy, enteredState, lastState, metaLen, endSize, sizesIn, Whole, cutOf, midOf, aboveLast, fitsOf, earlyOf, Ready, DecidedIs, EndingIs};
 ghost use Rattle.builder.specs.Writes.{sealedOut, ClosedOut, ClosedIndex, ClosedFilters, EnteredRuns, LastFilters, Framed, IndexPut, EndFits, EndPut};
 use block_builder::block_builder::BlockBuilder;
 use codec::put::Written;
@@ -449,20 +449,87 @@ fn meta_size(f: Filter, offset: usize, size: usize) -> usize
     1 + varint_len(n) + varint_len(handle) + n + handle + 8
 }
 
+// The bytes of data blocks, and then of filter block, metaindex, an index block of so many bytes, and footer.
+fn end_size(filter: Filter, written: usize, f: FilterSizes, index: usize) -> usize
+    requires { ⌜ (written ≤ 2 ^ 40) × (f .bytes ≤ 2 ^ 40) × (f .made ≤ 2 ^ 40) × (index ≤ 2 ^ 40) ⌝ }
+    ensures { λ r. ⌜ r ≡ endSize (choiceOf filter) written (f .bytes + 4 * f .made + 5) index ⌝ }
+{
+    let block = f.bytes + 4 * f.made + 5;
+    let meta = meta_size(filter, written, block);
+    written + (block + 5) + (meta + 5) + (index + 5) + 48
+}
+
+// What the size of the finished table is reckoned from: the bytes of the data blocks, the index block's size, and the filters.
+struct Sizes {
+    written: usize,
+    index: usize,
+    filtered: usize,
+    made: usize,
+    waiting: usize,
+}
+
+// The same of the state with the open block closed and indexed under the first len bytes of last, without making that state;
+// index holds the index block's last key.
+fn closed_sizes(s: Builder, index: &[u8], last: &[u8], len: usize) -> Sizes
+    requires { ⌜ (Small s) × (now index ≡ s .indexed .last) × (len ≤ length (now last)) × (len ≤ 1032) ⌝ }
+    ensures { λ r. ⌜ r ≡ sizesIn (closedState s (take len (now (last .entry)))) ⌝ }
+{
+    let pending = s.pending;
+    let size = pending.size_estimate();
+    let end = s.written + size + 5;
+    let handle = varint_len(s.written) + varint_len(size);
+    let options = s.options;
+    let filter = options.filter;
+    let f = made_until(filter, end / 2048, s.filtered, s.made, s.waiting);
+    let indexed = s.indexed;
+    let more = block_builder::block_builder::size_with(
+        indexed.interval,
+        indexed.bytes,
+        indexed.restarts,
+        indexed.since,
+        index,
+        indexed.len,
+        &last[..len],
+        handle,
+    );
+    Sizes {
+        written: end,
+        index: more,
+        filtered: f.bytes,
+        made: f.made,
+        waiting: f.waiting,
+    }
+}
+
+// At the end: those of the state with a pending block closed, and indexed under its last key.
+fn last_sizes(s: Builder) -> Sizes
+    requires { ⌜ (Small s) × (s .pending .len ≤ 1032) ⌝ }
+    ensures { λ r. ⌜ r ≡ sizesIn (lastState s) ⌝ }
+{
+    let pending = s.pending;
+    let indexed = s.indexed;
+    if pending.restarts == 0 {
+        return Sizes {
+            written: s.written,
+            index: indexed.size_estimate(),
+            filtered: s.filtered,
+            made: s.made,
+            waiting: s.waiting,
+        };
+    }
+    closed_sizes(s, &indexed.last, &pending.last, pending.len)
+}
+
 // The bytes of the table finished now.
 fn finished_size(s: Builder) -> usize
-    requires { ⌜ (Small s) × (length (lastOf s) ≤ 1032) ⌝ }
+    requires { ⌜ (Small s) × (s .pending .len ≤ 1032) ⌝ }
     ensures { λ r. ⌜ (Whole s → r ≡ finishedSize (optionsOf (s .options)) (countsIn s)) ⌝ }
 {
-    let d = closed_last(s);
+    let d = last_sizes(s);
     let options = s.options;
     let filter = options.filter;
     let f = last_made(filter, d.filtered, d.made, d.waiting);
-    let block = f.bytes + 4 * f.made + 5;
-    let meta = meta_size(filter, d.written, block);
-    let indexed = d.indexed;
-    let index = indexed.size_estimate();
-    d.written + (block + 5) + (meta + 5) + (index + 5) + 48
+    end_size(filter, d.written, f, d.index)
 }
 
 // Whether the parts of an addition are within the limits.
@@ -918,11 +985,12 @@ fn decide_end(s: Builder, l: Lengths) -> Ending
             sizes: none,
         };
     }
-    let size = finished_size(s);
     let last = closed_last(s);
     let options = s.options;
     let filter = options.filter;
     let f = last_made(filter, last.filtered, last.made, last.waiting);
+    let indexed = last.indexed;
+    let size = end_size(filter, last.written, f, indexed.size_estimate());
     let runs = both(f.made <= l.offsets, last.indexed.bytes <= l.index);
     if !both(size <= l.out, both(f.bytes <= l.filters, runs)) {
         return Ending {

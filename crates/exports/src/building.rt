@@ -123,14 +123,14 @@ fn state_out(b: Builder) -> SalevoniState
 }
 
 // What start and add answer: 0 with the state after, or the refusal's number with the one before.
-fn answered(before: SalevoniState, after: SalevoniState, answer: Answer) -> SalevoniBuilt
-    ensures { λ r. ⌜ r ≡ answered before after answer ⌝ }
+fn answered(before: SalevoniState, b: Builder, answer: Answer) -> SalevoniBuilt
+    ensures { λ r. ⌜ r ≡ answered before (stateOut b) answer ⌝ }
 {
     match answer {
         Answer::Ok => SalevoniBuilt {
             answer: 0,
             size: 0,
-            state: after,
+            state: state_out(b),
         },
         Answer::Refused(n) => SalevoniBuilt {
             answer: n,
@@ -164,8 +164,7 @@ fn started_out(x: Started) -> SalevoniBuilt
 {
     let answer = x.answer;
     let b = x.state;
-    let after = state_out(b);
-    answered(after, after, answer)
+    answered(state_out(b), b, answer)
 }
 
 // Add's answer; a refusal comes with the state that went in.
@@ -174,8 +173,7 @@ fn added_out(before: SalevoniState, x: Added) -> SalevoniBuilt
 {
     let answer = x.answer;
     let b = x.state;
-    let after = state_out(b);
-    answered(before, after, answer)
+    answered(before, b, answer)
 }
 
 // Finish's answer likewise.

@@ -2,7 +2,7 @@
 use mathlib.Core.Path.{sym, _∙_}
 use native.Mathlib.Omega.{arith}
 use borrow.Author.Tests.{not-true, not-false}
-use Rattle.builder.proofs.SizeLaws.{small-is, last-room}
+use Rattle.builder.proofs.SizeLaws.{small-is, last-room, last-sizes, finished-is, index-exact}
 use Rattle.builder.proofs.DecideLaws.{sane-is, last-short}
 use Rattle.builder.proofs.EndLaws.{ending-large, ending-full, ending-ok}
 use borrow.Author.Needs.{needs}
@@ -15,25 +15,32 @@ is-small-requires c κs = search needs
 returns : tie.Need-returns
 returns c = let a = c .before .before .args in ending-large (a .s) (a .l) (a .s) (record { bytes = 0; made = 0; waiting = 0 }) (c .before .is-small .ensures) (not-true _ (c .if1 .taken))
 
-finished-size-requires : tie.Need-finished-size-requires
-finished-size-requires c κs =
-    let a = c .before .before in
-    let x = sane-is (a .args .s) (a .args .l) (a .pre) in
-    (small-is (a .args .s) (x .options) (sym (c .before .is-small .ensures) ∙ not-false _ (c .if1 .left)), last-short (a .args .s) (x .len))
-
 closed-last-requires : tie.Need-closed-last-requires
 closed-last-requires c κs =
-    let a = c .before .before .before in
+    let a = c .before .before in
     let x = sane-is (a .args .s) (a .args .l) (a .pre) in
-    small-is (a .args .s) (x .options) (sym (c .before .before .is-small .ensures) ∙ not-false _ (c .before .if1 .left))
+    small-is (a .args .s) (x .options) (sym (c .before .is-small .ensures) ∙ not-false _ (c .if1 .left))
 
 last-made-requires : tie.Need-last-made-requires
 last-made-requires c κs =
-    let a = c .before .before .before .before .before in
+    let a = c .before .before .before .before in
     let x = sane-is (a .args .s) (a .args .l) (a .pre) in
-    let k = small-is (a .args .s) (x .options) (sym (c .before .before .before .before .is-small .ensures) ∙ not-false _ (c .before .before .before .if1 .left)) in
+    let k = small-is (a .args .s) (x .options) (sym (c .before .before .before .is-small .ensures) ∙ not-false _ (c .before .before .if1 .left)) in
     let r = last-room (a .args .s) k (last-short (a .args .s) (x .len)) (c .before .closed-last .result) (c .before .closed-last .ensures) in
     omega arith
+
+size-estimate-requires : tie.Need-size-estimate-requires
+size-estimate-requires c κs = search needs
+
+end-size-requires : tie.Need-end-size-requires
+end-size-requires c κs =
+    let a = c .before .before .before .before .before .before .before in
+    let x = sane-is (a .args .s) (a .args .l) (a .pre) in
+    let k = small-is (a .args .s) (x .options) (sym (c .before .before .before .before .before .before .is-small .ensures) ∙ not-false _ (c .before .before .before .before .before .if1 .left)) in
+    let d = c .before .before .before .before .closed-last in
+    let f = c .before .before .last-made in
+    let r = last-sizes (a .args .s) k (last-short (a .args .s) (x .len)) (d .result) (f .result) (d .ensures) (f .ensures) in
+    (r .2, r .0, r .1, omega (arith, c .size-estimate .ensures, r .3))
 
 both-requires : tie.Need-both-requires
 both-requires c κs = search needs
@@ -46,18 +53,28 @@ both-requires-3 c κs = search needs
 
 returns-2 : tie.Need-returns-2
 returns-2 c =
-    let a = c .before .before .before .before .before .before .before .before .before .before .before .before .before .before .before .before .before in
+    let a = c .before .before .before .before .before .before .before .before .before .before .before .before .before .before .before .before .before .before .before in
     let x = sane-is (a .args .s) (a .args .l) (a .pre) in
-    let k = small-is (a .args .s) (x .options) (sym (c .before .before .before .before .before .before .before .before .before .before .before .before .before .before .before .before .is-small .ensures) ∙ not-false _ (c .before .before .before .before .before .before .before .before .before .before .before .before .before .before .before .if1 .left)) in
-    ending-full (a .args .s) (a .args .l) (a .args .s) (record { bytes = 0; made = 0; waiting = 0 }) k (c .before .before .before .before .before .before .before .before .before .before .before .before .before .before .before .before .is-small .ensures) (not-false _ (c .before .before .before .before .before .before .before .before .before .before .before .before .before .before .before .if1 .left)) _ _ _ (c .before .before .before .before .before .before .before .before .before .before .before .before .before .before .finished-size .ensures) (c .before .before .before .before .before .before .before .before .before .before .before .before .before .closed-last .ensures) (c .before .before .before .before .before .before .before .before .before .before .before .last-made .ensures)
+    let k = small-is (a .args .s) (x .options) (sym (c .before .before .before .before .before .before .before .before .before .before .before .before .before .before .before .before .before .before .is-small .ensures) ∙ not-false _ (c .before .before .before .before .before .before .before .before .before .before .before .before .before .before .before .before .before .if1 .left)) in
+    let d = c .before .before .before .before .before .before .before .before .before .before .before .before .before .before .before .before .closed-last in
+    let f = c .before .before .before .before .before .before .before .before .before .before .before .before .before .before .last-made in
+    let short = last-short (a .args .s) (x .len) in
+    ending-full (a .args .s) (a .args .l) (a .args .s) (record { bytes = 0; made = 0; waiting = 0 }) k (c .before .before .before .before .before .before .before .before .before .before .before .before .before .before .before .before .before .before .is-small .ensures) (not-false _ (c .before .before .before .before .before .before .before .before .before .before .before .before .before .before .before .before .before .if1 .left)) _ _ _
+    (λ w. c .before .before .before .before .before .before .before .before .before .before .before .end-size .ensures ∙ finished-is (a .args .s) k w short (d .result) (f .result) (d .ensures) (f .ensures) (index-exact (a .args .s) k short (d .result) (d .ensures) (c .before .before .before .before .before .before .before .before .before .before .before .before .size-estimate .ensures)))
+    (d .ensures) (f .ensures)
     (c .before .both3 .ensures ∙ rw (c .before .before .both2 .ensures, c .before .before .before .before .before .before .both .ensures)) (not-true _ (c .if2 .taken))
 
 returns-3 : tie.Need-returns-3
 returns-3 c =
-    let a = c .before .before .before .before .before .before .before .before .before .before .before .before .before .before .before .before .before in
+    let a = c .before .before .before .before .before .before .before .before .before .before .before .before .before .before .before .before .before .before .before in
     let x = sane-is (a .args .s) (a .args .l) (a .pre) in
-    let k = small-is (a .args .s) (x .options) (sym (c .before .before .before .before .before .before .before .before .before .before .before .before .before .before .before .before .is-small .ensures) ∙ not-false _ (c .before .before .before .before .before .before .before .before .before .before .before .before .before .before .before .if1 .left)) in
-    ending-ok (a .args .s) (a .args .l) (a .args .s) (record { bytes = 0; made = 0; waiting = 0 }) k (c .before .before .before .before .before .before .before .before .before .before .before .before .before .before .before .before .is-small .ensures) (not-false _ (c .before .before .before .before .before .before .before .before .before .before .before .before .before .before .before .if1 .left)) _ _ _ (c .before .before .before .before .before .before .before .before .before .before .before .before .before .before .finished-size .ensures) (c .before .before .before .before .before .before .before .before .before .before .before .before .before .closed-last .ensures) (c .before .before .before .before .before .before .before .before .before .before .before .last-made .ensures)
+    let k = small-is (a .args .s) (x .options) (sym (c .before .before .before .before .before .before .before .before .before .before .before .before .before .before .before .before .before .before .is-small .ensures) ∙ not-false _ (c .before .before .before .before .before .before .before .before .before .before .before .before .before .before .before .before .before .if1 .left)) in
+    let d = c .before .before .before .before .before .before .before .before .before .before .before .before .before .before .before .before .closed-last in
+    let f = c .before .before .before .before .before .before .before .before .before .before .before .before .before .before .last-made in
+    let short = last-short (a .args .s) (x .len) in
+    ending-ok (a .args .s) (a .args .l) (a .args .s) (record { bytes = 0; made = 0; waiting = 0 }) k (c .before .before .before .before .before .before .before .before .before .before .before .before .before .before .before .before .before .before .is-small .ensures) (not-false _ (c .before .before .before .before .before .before .before .before .before .before .before .before .before .before .before .before .before .if1 .left)) _ _ _
+    (λ w. c .before .before .before .before .before .before .before .before .before .before .before .end-size .ensures ∙ finished-is (a .args .s) k w short (d .result) (f .result) (d .ensures) (f .ensures) (index-exact (a .args .s) k short (d .result) (d .ensures) (c .before .before .before .before .before .before .before .before .before .before .before .before .size-estimate .ensures)))
+    (d .ensures) (f .ensures)
     (c .before .both3 .ensures ∙ rw (c .before .before .both2 .ensures, c .before .before .before .before .before .before .both .ensures)) (not-false _ (c .if2 .left))
 
 pub decide-end-spec : {M : Type 1} → statement M
@@ -66,9 +83,10 @@ decide-end-spec =
     (tie.spec
     is-small-requires
     returns
-    finished-size-requires
     closed-last-requires
     last-made-requires
+    size-estimate-requires
+    end-size-requires
     both-requires
     both-requires-2
     both-requires-3

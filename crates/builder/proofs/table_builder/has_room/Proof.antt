@@ -1,7 +1,7 @@
 -- `builder::table_builder::has_room` meets its contract.
 use mathlib.Core.Path.{sym, _∙_}
 use borrow.Author.Tests.{not-true, not-false}
-use Rattle.builder.proofs.DecideLaws.{room-insane, room-large, room-size, sane-small, sane-is, last-short}
+use Rattle.builder.proofs.DecideLaws.{room-insane, room-large, room-size, sane-small, sane-is}
 use borrow.Author.Needs.{needs}
 use Rattle.builder.proofs.table_builder.has_room.Statement.{statement}
 use Rattle.builder.proofs.table_builder.has_room.Tie as tie
@@ -23,7 +23,7 @@ finished-size-requires c κs =
     let a = c .before .before .before .before .args in
     let e = c .before .before .before .is-sane .ensures in
     let f = not-false _ (c .before .before .if1 .left) in
-    (sane-small (a .s) (a .l) e f (c .before .is-small .ensures) (not-false _ (c .if2 .left)), last-short (a .s) (sane-is (a .s) (a .l) (sym e ∙ f) .len))
+    (sane-small (a .s) (a .l) e f (c .before .is-small .ensures) (not-false _ (c .if2 .left)), sane-is (a .s) (a .l) (sym e ∙ f) .len)
 
 room-requires : tie.Need-room-requires
 room-requires c κs = search needs

@@ -1,21 +1,13 @@
 -- `exports::building::added_out` meets its contract.
-use mathlib.Core.Path.{ap, _∙_}
-use Rattle.exports.specs.Building.{answered}
-use Rattle.exports.specs.declared.building.SalevoniState.{SalevoniState}
 use borrow.Author.Needs.{needs}
 use Rattle.exports.proofs.building.added_out.Statement.{statement}
 use Rattle.exports.proofs.building.added_out.Tie as tie
-
-state-out-requires : tie.Need-state-out-requires
-state-out-requires c κs = search needs
 
 answered-requires : tie.Need-answered-requires
 answered-requires c κs = search needs
 
 returns : tie.Need-returns
-returns c =
-    let s = c .before .before .before .args in
-    c .answered .ensures ∙ ap (λ (t : SalevoniState). answered (s .before) t (s .x .answer)) (c .before .state-out .ensures)
+returns c = c .answered .ensures
 
 pub added-out-spec : {M : Type 1} → statement M
-added-out-spec = tie.close (tie.spec state-out-requires answered-requires returns)
+added-out-spec = tie.close (tie.spec answered-requires returns)

@@ -1,6 +1,6 @@
 -- `exports::building::started_out` meets its contract.
 use mathlib.Core.Path.{ap, _∙_}
-use Rattle.exports.specs.Building.{answered}
+use Rattle.exports.specs.Building.{stateOut, answered}
 use Rattle.exports.specs.declared.building.SalevoniState.{SalevoniState}
 use borrow.Author.Needs.{needs}
 use Rattle.exports.proofs.building.started_out.Statement.{statement}
@@ -15,7 +15,7 @@ answered-requires c κs = search needs
 returns : tie.Need-returns
 returns c =
     let s = c .before .before .before .args in
-    c .answered .ensures ∙ ap (λ (t : SalevoniState). answered t t (s .x .answer)) (c .before .state-out .ensures)
+    c .answered .ensures ∙ ap (λ (t : SalevoniState). answered t (stateOut (s .x .state)) (s .x .answer)) (c .before .state-out .ensures)
 
 pub started-out-spec : {M : Type 1} → statement M
 started-out-spec = tie.close (tie.spec state-out-requires answered-requires returns)
