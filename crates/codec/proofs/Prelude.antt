@@ -42,9 +42,6 @@ true-is e = rw e tt
 pub false-is : {t : Bool} → t ≡ false → T (not t)
 false-is e = rw e tt
 
-pub not-both : (t : Bool) → T t → T (not t) → ⊥
-not-both true h n = n
-
 -- ---- tests joined
 
 pub both : (p q : Bool) → p && q ≡ true → (p ≡ true) × (q ≡ true)

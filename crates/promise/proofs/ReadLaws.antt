@@ -4,9 +4,10 @@ use mathlib.Core.Path.{_≡_, refl, sym, _∙_, ap, ap₂, subst}
 use mathlib.Core.List.{List, [], _∷_, map, List·Memᴰ, List·Memᴰ·head, List·Memᴰ·tail, Memᴰ·map}
 use mathlib.Core.Bool.{true}
 use mathlib.Core.Option.{Option, none, some}
+use lib.Dec.{T-not}
 use lib.ListN.{length}
 use borrow.Author.Tests.{eqb-true, eqb-false}
-use Rattle.codec.proofs.Prelude.{apart, not-both}
+use Rattle.codec.proofs.Prelude.{apart}
 use Rattle.codec.proofs.Lists.{mem-unmap}
 use Rattle.keys.specs.Order.{Point, userOf, seqOf, kindOf}
 use Rattle.table.specs.Options.{Addition}
@@ -50,7 +51,7 @@ module _ (t : List ℕ) (q : Passed t) (p : Point) where
   unfolding soughtOf foundOr bufferAfter
   by-seek none is k (e, b) =
       rw e (record {
-        none = (λ _ x m n. not-both (notBelow p x) n (seek-none-means t p .0 is x m), λ _. refl);
+        none = (λ _ x m n. T-not (notBelow p x) (seek-none-means t p .0 is x m) n, λ _. refl);
         kept = λ _. b;
         entry = λ en g. apart cc;
         answers = λ n g. apart cc;
@@ -176,8 +177,7 @@ module _ (t : List ℕ) where
   shown-all (x ∷ xs) f = ap₂ _∷_ (shown-one x (f x (List·Memᴰ·head refl))) (shown-all xs (λ y m. f y (List·Memᴰ·tail m)))
 
 pub walk-shows-additions : walkShowsAdditions
-walk-shows-additions o xs t w bytes k l r k′ s vs walked =
+walk-shows-additions o xs t w bytes k l r k′ s vs last walked =
     let d = finished-reads o xs t w in
-    ap (map (shownBy t)) (walk-means t (d .0) leastPoint k (unfold leastPoint pointFits within in refl) l r k′ s vs walked ∙ ap (map visitOf) (whole-walk t bytes (d .0)))
-    ∙ shown-all t (plain t) (λ x m. m)
-    ∙ d .1
+    let m = walk-means t (d .0) leastPoint k (unfold leastPoint pointFits within in refl) l r k′ s vs last walked in
+    (ap (map (shownBy t)) (m .0 ∙ ap (map visitOf) (whole-walk t bytes (d .0))) ∙ shown-all t (plain t) (λ x i. i) ∙ d .1, m .1)

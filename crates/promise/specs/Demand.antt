@@ -79,10 +79,12 @@ shownBy t v =
       value = part t (v .entry .«value_at») (v .entry .«value_len»);
     }
 
--- of every finished table, which has bytes: a walk by seek and step, from the least point on, shows exactly the additions that were accepted, in order
+-- of every finished table, which has bytes: a walk by seek and step, from the least point on, shows exactly the additions that were accepted, in order, and
+-- ends where there is none
 abbrev pub walkShowsAdditions : Type 0
 walkShowsAdditions = (o : Given.Options) (xs : List Addition) (t : List ℕ) → Finishes o xs t → ((i : ℕ) → getD t i 0 < 256) → (k : List ℕ) → 1032 ≤ length k
-    → (r : Sought) (k′ : List ℕ) → Seeks t leastPoint k r k′ → (vs : List Visit) → Walk t r k′ vs → map (shownBy t) vs ≡ xs
+    → (r : Sought) (k′ : List ℕ) → Seeks t leastPoint k r k′ → (vs : List Visit) (last : Sought) → Walk t r k′ vs last
+    → (map (shownBy t) vs ≡ xs) × (last ≡ SoughtCase.None)
 
 -- ---- reading any table that passes
 

@@ -74,10 +74,10 @@ unfolding stepSays
 step-after t bs x cs e = rw (after-means t bs x cs e, stepSays)
 
 module _ (t : List ℕ) (passed : Passed t) where
-  tour : (bs cs : List Found) → plain t ≡ bs ++ cs → {r : Sought} {k : List ℕ} {vs : List Visit} → Walk t r k vs → Shown t cs r k → vs ≡ map visitOf cs
+  tour : (bs cs : List Found) → plain t ≡ bs ++ cs → {r last : Sought} {k : List ℕ} {vs : List Visit} → Walk t r k vs last → Shown t cs r k → (vs ≡ map visitOf cs) × (last ≡ SoughtCase.None)
   unfolding foundOr soughtOf entryOf visitOf
-  tour bs [] e Walk.done s = refl
-  tour bs [] e Walk.stuck s = refl
+  tour bs [] e Walk.done s = (refl, refl)
+  tour bs [] e Walk.stuck s = let z = s .answer in apart cc
   tour bs [] e (Walk.more w ws) s = let z = s .answer in apart cc
   tour bs (c ∷ cs) e Walk.done s = let z = s .answer in apart cc
   tour bs (c ∷ cs) e Walk.stuck s = let z = s .answer in apart cc
@@ -90,11 +90,11 @@ module _ (t : List ℕ) (passed : Passed t) where
       let says : stepSays t (en .place .index) (en .place .entry) ≡ foundOr (head? cs) = rw en-is (step-after t bs c cs e) in
       let next = shown t cs k (of .passed passed ∙ says) (w .shown) (w .is .buffer) (of .other) (s .long) in
       let rest = tour (bs ++ (c ∷ [])) cs (e ∙ sym (append-assoc bs (c ∷ []) cs)) ws next in
-      ap₂ (λ (v : Visit) (l : List Visit). v ∷ l) (λ i. record { entry = en-is i; key = key-is i }) rest
+      (ap₂ (λ (v : Visit) (l : List Visit). v ∷ l) (λ i. record { entry = en-is i; key = key-is i }) (rest .0), rest .1)
 
 pub walk-means : walkMeans
 unfolding seekSays seekOf
-walk-means t passed p k fits long r k′ w vs ws =
+walk-means t passed p k fits long r k′ w vs last ws =
     let rest = onward-rest p (plain t) in
     let of = w .is .table fits long in
     tour t passed (rest .0) (onward p (plain t)) (rest .1) ws

@@ -22,22 +22,23 @@ pub record Visit : Type 0 where
 unfoldable pub visitOf : Found → Visit
 visitOf x = record { entry = entryOf x; key = x .key }
 
--- steps from an answer and a key buffer on, until there is none or one is refused, and what they show
-pub data Walk (t : List ℕ) : Sought → List ℕ → List Visit → Type 0 where
-  done : {k : List ℕ} → Walk t SoughtCase.None k []
-  stuck : {n : ℕ} {k : List ℕ} → Walk t (SoughtCase.Refused n) k []
-  more : {e : Entry} {k k′ : List ℕ} {r : Sought} {vs : List Visit} → Steps t (e .place .index) (e .place .entry) k r k′ → Walk t r k′ vs
-      → Walk t (SoughtCase.Entry e) k (record { entry = e; key = take (e .«key_len») k } ∷ vs)
+-- steps from an answer and a key buffer on, until there is none or one is refused; what they show, and the last answer
+pub data Walk (t : List ℕ) : Sought → List ℕ → List Visit → Sought → Type 0 where
+  done : {k : List ℕ} → Walk t SoughtCase.None k [] SoughtCase.None
+  stuck : {n : ℕ} {k : List ℕ} → Walk t (SoughtCase.Refused n) k [] (SoughtCase.Refused n)
+  more : {e : Entry} {k k′ : List ℕ} {r last : Sought} {vs : List Visit} → Steps t (e .place .index) (e .place .entry) k r k′ → Walk t r k′ vs last
+      → Walk t (SoughtCase.Entry e) k (record { entry = e; key = take (e .«key_len») k } ∷ vs) last
 
 -- the entries from the first that is not below a point on
 unfoldable pub onward : Point → List Found → List Found
 onward p [] = []
 onward p (x ∷ xs) = elim (notBelow p x) [ true ↦ x ∷ xs | false ↦ onward p xs ]
 
--- of a passed table: a walk from a seek on shows the plain reading from the point on, in order; so no step of it is refused before the end
+-- of a passed table: a walk from a seek on shows the plain reading from the point on, in order, and ends where there is none: no step of it is refused
 abbrev pub walkMeans : Type 0
 walkMeans = (t : List ℕ) → Passed t → (p : Point) (k : List ℕ) → pointFits p ≡ true → 1032 ≤ length k
-    → (r : Sought) (k′ : List ℕ) → Seeks t p k r k′ → (vs : List Visit) → Walk t r k′ vs → vs ≡ map visitOf (onward p (plain t))
+    → (r : Sought) (k′ : List ℕ) → Seeks t p k r k′ → (vs : List Visit) (last : Sought) → Walk t r k′ vs last
+    → (vs ≡ map visitOf (onward p (plain t))) × (last ≡ SoughtCase.None)
 
 -- the least point: a word of one byte 0, at the greatest edition
 unfoldable pub leastPoint : Point
