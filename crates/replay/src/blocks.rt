@@ -2,6 +2,9 @@
 use crate::fields;
 use crate::fields::front;
 use crate::show;
+use crate::walk;
+use crate::walk::Over;
+use crate::walk::Walked;
 use block_builder::block_builder::BlockBuilder;
 use block_reader::block as rows;
 use block_reader::block::EntryRead;
@@ -177,11 +180,6 @@ fn next(s: &[u8], at: usize, b: &[u8]) {
     found(b, &key, r);
 }
 
-struct Walked {
-    more: bool,
-    start: usize,
-}
-
 // One entry of a walk, shown if it is among the first six.
 fn visit(b: &[u8], f: Found, key: &[u8], n: usize) -> Walked {
     match f {
@@ -194,48 +192,32 @@ fn visit(b: &[u8], f: Found, key: &[u8], n: usize) -> Walked {
             if n < 6 {
                 entry(b, key, start, key_len, value_at, value_len);
             }
-            Walked { more: true, start }
+            Walked {
+                more: true,
+                index: 0,
+                entry: start,
+                sum: 0,
+            }
         }
-        Found::None => Walked {
-            more: false,
-            start: 0,
-        },
-        Found::NoPlace => Walked {
-            more: false,
-            start: 0,
-        },
+        Found::None => walk::ended(0),
+        Found::NoPlace => walk::ended(0),
         Found::Bad => {
             show::say(b" bad");
-            Walked {
-                more: false,
-                start: 0,
-            }
+            walk::ended(0)
         }
     }
 }
 
-fn walk_first(b: &[u8]) -> Walked {
+pub fn walk_first(b: &[u8]) -> Walked {
     let mut key = [0xee_u8; 1032];
     let f = rows::first(b, &mut key);
     visit(b, f, &key, 0)
 }
 
-fn walk_next(b: &[u8], at: usize, n: usize) -> Walked {
+pub fn walk_next(b: &[u8], at: usize, n: usize) -> Walked {
     let mut key = [0xee_u8; 1032];
     let f = rows::by_place(b, at, Which::After, &mut key);
     visit(b, f, &key, n)
-}
-
-// All entries, by first and then each after the last.
-fn walk(b: &[u8]) {
-    let mut w = walk_first(b);
-    let mut n: usize = 0;
-    while n < 65536 && w.more {
-        n = n + 1;
-        w = walk_next(b, w.start, n);
-    }
-    show::say(b" of ");
-    show::number(n);
 }
 
 // Whether what is found lies in the block.
@@ -319,7 +301,7 @@ fn told(rest: &[u8], r: EntryRead) {
 // Commands that read the loaded block.
 fn ask(s: &[u8], at: usize, op: u8, b: &[u8]) {
     if op == b'W' {
-        walk(b);
+        walk::walk(Over::Block, b);
         return;
     }
     if op == b'F' {

@@ -2,6 +2,9 @@
 use crate::fields::front;
 use crate::show;
 use crate::state;
+use crate::walk;
+use crate::walk::Over;
+use crate::walk::Walked;
 use full_check::check;
 use full_check::check::Verdict;
 use keys::key_types;
@@ -28,23 +31,6 @@ fn verdict(t: &[u8]) {
             show::say(b" check ");
             show::number64(n as u64);
         }
-    }
-}
-
-// Whether there is more to walk, the place, and the checksum of what was met.
-struct Walked {
-    more: bool,
-    index: usize,
-    entry: usize,
-    sum: u32,
-}
-
-fn ended(sum: u32) -> Walked {
-    Walked {
-        more: false,
-        index: 0,
-        entry: 0,
-        sum,
     }
 }
 
@@ -103,20 +89,20 @@ fn visit(sum: u32, t: &[u8], key: &[u8], r: Sought) -> Walked {
         Sought::Refused(n) => {
             show::say(b" refused ");
             show::number64(n as u64);
-            ended(sum)
+            walk::ended(sum)
         }
-        Sought::None => ended(sum),
+        Sought::None => walk::ended(sum),
         Sought::Entry(e) => met(sum, t, front(key, e.key_len), e),
     }
 }
 
-fn walk_first(t: &[u8]) -> Walked {
+pub fn walk_first(t: &[u8]) -> Walked {
     let mut key = [0xee_u8; 1032];
     let r = table_reader::seek(t, b"\0", 0x00ff_ffff_ffff_ffff, &mut key);
     visit(0, t, &key, r)
 }
 
-fn walk_next(t: &[u8], w: Walked) -> Walked {
+pub fn walk_next(t: &[u8], w: Walked) -> Walked {
     let mut key = [0xee_u8; 1032];
     let place = Place {
         index: w.index,
@@ -126,22 +112,10 @@ fn walk_next(t: &[u8], w: Walked) -> Walked {
     visit(w.sum, t, &key, r)
 }
 
-// All entries, by a seek of the least target and steps: how many, and the checksum of them.
-fn walk(t: &[u8]) {
-    let mut w = walk_first(t);
-    let mut n: usize = 0;
-    while n < 65536 && w.more {
-        n = n + 1;
-        w = walk_next(t, w);
-    }
-    show::say(b" of ");
-    show::number(n);
-    show::say(b" ");
-    show::word(w.sum);
-}
-
 pub fn table(t: &[u8]) {
     bytes(t);
     verdict(t);
-    walk(t);
+    let w = walk::walk(Over::Finished, t);
+    show::say(b" ");
+    show::word(w.sum);
 }

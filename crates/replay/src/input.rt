@@ -26,14 +26,11 @@ pub fn line(s: &[u8], h: Held) -> &[u8] {
 
 // The place after the line at a place, 0 where it does not end.
 fn line_end(s: &[u8], at: usize) -> usize {
-    let mut i = at;
-    while i < s.len() {
-        if s[i] == b'\n' {
-            return i + 1;
-        }
-        i = i + 1;
+    if s.len() < at {
+        return 0;
     }
-    0
+    let i = bytes::scan::find(s, at, s.len(), b'\n');
+    if i < s.len() { i + 1 } else { 0 }
 }
 
 fn copy(s: &mut [u8], from: usize, to: usize) {

@@ -16,6 +16,7 @@ mod runs;
 mod show;
 mod state;
 mod tables;
+mod walk;
 
 use input::Held;
 

@@ -2,6 +2,9 @@
 use crate::fields;
 use crate::fields::front;
 use crate::show;
+use crate::walk;
+use crate::walk::Over;
+use crate::walk::Walked;
 use full_check::check;
 use full_check::check::Verdict;
 use reader::table_reader;
@@ -154,26 +157,13 @@ fn step(s: &[u8], at: usize, t: &[u8]) {
     sought(t, &key, r);
 }
 
-struct Walked {
-    more: bool,
-    index: usize,
-    entry: usize,
-}
-
-fn ended() -> Walked {
-    Walked {
-        more: false,
-        index: 0,
-        entry: 0,
-    }
-}
-
 fn going(e: Entry) -> Walked {
     let place = e.place;
     Walked {
         more: true,
         index: place.index,
         entry: place.entry,
+        sum: 0,
     }
 }
 
@@ -182,11 +172,11 @@ fn visit(t: &[u8], key: &[u8], r: Sought, n: usize) -> Walked {
     match r {
         Sought::Refused(x) => {
             refused(key, x);
-            ended()
+            walk::ended(0)
         }
         Sought::None => {
             show::kept(key);
-            ended()
+            walk::ended(0)
         }
         Sought::Entry(e) => {
             if n < 6 {
@@ -197,28 +187,16 @@ fn visit(t: &[u8], key: &[u8], r: Sought, n: usize) -> Walked {
     }
 }
 
-fn walk_first(t: &[u8]) -> Walked {
+pub fn walk_first(t: &[u8]) -> Walked {
     let mut key = [0xee_u8; 1032];
     let r = table_reader::seek(t, b"\0", 0x00ff_ffff_ffff_ffff, &mut key);
     visit(t, &key, r, 0)
 }
 
-fn walk_next(t: &[u8], index: usize, start: usize, n: usize) -> Walked {
+pub fn walk_next(t: &[u8], index: usize, start: usize, n: usize) -> Walked {
     let mut key = [0xee_u8; 1032];
     let r = step_with(t, index, start, &mut key, 1032);
     visit(t, &key, r, n)
-}
-
-// All entries, by a seek of the least target and steps.
-fn walk(t: &[u8]) {
-    let mut w = walk_first(t);
-    let mut n: usize = 0;
-    while n < 65536 && w.more {
-        n = n + 1;
-        w = walk_next(t, w.index, w.entry, n);
-    }
-    show::say(b" of ");
-    show::number(n);
 }
 
 // Whether an entry's value lies in the table, and only its key was written to the key buffer.
@@ -267,8 +245,8 @@ fn may_find(t: &[u8], key: &[u8], r: Found) -> bool {
 
 fn onward(r: Sought) -> Walked {
     match r {
-        Sought::Refused(_) => ended(),
-        Sought::None => ended(),
+        Sought::Refused(_) => walk::ended(0),
+        Sought::None => walk::ended(0),
         Sought::Entry(e) => going(e),
     }
 }
@@ -337,49 +315,35 @@ fn tried(t: &[u8], word: &[u8], edition: u64) {
     any_reads(t, word, edition);
 }
 
-fn change(out: &mut [u8], i: usize, bits: u8) {
+// A part of a table, and whether it is a block that is sealed anew after a change.
+struct Part {
+    at: usize,
+    size: usize,
+    sealed: bool,
+}
+
+fn change_byte(out: &mut [u8], i: usize, bits: u8) {
     if i < out.len() {
         out[i] = out[i] ^ bits;
     }
 }
 
-// The table with a byte changed; then it is as it was.
-fn changed(out: &mut [u8], len: usize, i: usize, bits: u8, word: &[u8], edition: u64) {
-    change(out, i, bits);
-    tried(front(out, len), word, edition);
-    change(out, i, bits);
-}
-
-// Every byte changed in turn.
-fn each_byte(out: &mut [u8], len: usize, bits: u8, word: &[u8], edition: u64) {
-    let mut i: usize = 0;
-    while i < len {
-        changed(out, len, i, bits, word, edition);
-        i = i + 1;
+fn change(out: &mut [u8], i: usize, bits: u8, part: Part) {
+    change_byte(out, i, bits);
+    if part.sealed {
+        codec::trailer::put_trailer(out, part.at, part.size);
     }
 }
 
-// Where a block stands in a table.
-struct Part {
-    at: usize,
-    size: usize,
-}
-
-// A byte changed, and the block sealed anew.
-fn change_sealed(out: &mut [u8], i: usize, bits: u8, part: Part) {
-    change(out, i, bits);
-    codec::trailer::put_trailer(out, part.at, part.size);
-}
-
-// The table with a byte of a block changed and the block sealed anew; then it is as it was.
-fn resealed(out: &mut [u8], len: usize, i: usize, bits: u8, part: Part, word: &[u8], edition: u64) {
-    change_sealed(out, i, bits, part);
+// The table with a byte of a part changed; then it is as it was.
+fn changed(out: &mut [u8], len: usize, i: usize, bits: u8, part: Part, word: &[u8], edition: u64) {
+    change(out, i, bits, part);
     tried(front(out, len), word, edition);
-    change_sealed(out, i, bits, part);
+    change(out, i, bits, part);
 }
 
-// Every byte of a block changed in turn, and the block sealed anew.
-fn each_sealed(
+// Every byte of a part changed in turn.
+fn each_byte(
     out: &mut [u8],
     len: usize,
     end: usize,
@@ -390,7 +354,7 @@ fn each_sealed(
 ) {
     let mut i = part.at;
     while i < end {
-        resealed(out, len, i, bits, part, word, edition);
+        changed(out, len, i, bits, part, word, edition);
         i = i + 1;
     }
 }
@@ -409,10 +373,17 @@ fn bytes(s: &[u8], at: usize, out: &mut [u8], len: usize) {
     let bits = fields::number(s, at);
     let f = fields::field(s, bits.next, &mut w);
     let edition = fields::number(s, f.next);
+    let part = Part {
+        at: 0,
+        size: len,
+        sealed: false,
+    };
     each_byte(
         out,
         len,
+        len,
         (bits.value % 256) as u8,
+        part,
         front(&w, f.len),
         edition.value as u64,
     );
@@ -439,8 +410,9 @@ fn sealed(s: &[u8], at: usize, out: &mut [u8], len: usize) {
     let part = Part {
         at: from.value,
         size: size.value,
+        sealed: true,
     };
-    each_sealed(
+    each_byte(
         out,
         len,
         end_of(from.value, size.value),
@@ -477,7 +449,7 @@ fn ask(s: &[u8], at: usize, op: u8, t: &[u8]) {
         return;
     }
     if op == b'U' {
-        walk(t);
+        walk::walk(Over::Table, t);
         return;
     }
     if op == b'I' {

@@ -23,14 +23,10 @@ pub fn run(s: &[u8], at: usize, len: usize) -> &[u8] {
 
 // The place of a byte, from a place on, or the end.
 fn find(s: &[u8], from: usize, b: u8) -> usize {
-    let mut i = from;
-    while i < s.len() {
-        if s[i] == b {
-            return i;
-        }
-        i = i + 1;
+    if s.len() < from {
+        return s.len();
     }
-    s.len()
+    bytes::scan::find(s, from, s.len(), b)
 }
 
 // The place behind it.

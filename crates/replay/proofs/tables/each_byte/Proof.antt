@@ -1,4 +1,4 @@
--- The bytes of a run changed in turn. The invariant: the run keeps its length.
+-- The bytes of a block changed in turn. The invariant: the run keeps its length.
 use Prim.Native.Nat.{_-_}
 use mathlib.Core.Path.{_≡_}
 use lib.ListN.{length}
@@ -7,10 +7,10 @@ use Rattle.replay.proofs.tables.each_byte.Statement.{statement}
 use Rattle.replay.proofs.tables.each_byte.Tie as tie
 
 abbrev Inv-loop : tie.InvT-loop
-Inv-loop out₀ len bits word edition i₀ out i = length out ≡ length out₀
+Inv-loop out₀ len end bits part word edition i₀ out i = length out ≡ length out₀
 
 abbrev μ-loop : tie.MeasureT-loop
-μ-loop out₀ len bits word edition i₀ out i = len - i
+μ-loop out₀ len end bits part word edition i₀ out i = end - i
 
 loop-holds : tie.Need-loop-holds Inv-loop μ-loop
 loop-holds c = search needs

@@ -1,17 +1,17 @@
 -- A walk of so many steps at most.
 use Prim.Native.Nat.{_-_}
 use borrow.Author.Needs.{needs}
-use Rattle.replay.proofs.finished.walk.Statement.{statement}
-use Rattle.replay.proofs.finished.walk.Tie as tie
+use Rattle.replay.proofs.walk.walk.Statement.{statement}
+use Rattle.replay.proofs.walk.walk.Tie as tie
 
 abbrev Inv-loop : tie.InvT-loop
-Inv-loop t w₀ n₀ t4 t5 w n = Unit {0}
+Inv-loop over s w₀ n₀ t4 w n = Unit {0}
 
 abbrev μ-loop : tie.MeasureT-loop
-μ-loop t w₀ n₀ t4 t5 w n = 65536 - n
+μ-loop over s w₀ n₀ t4 w n = 65536 - n
 
-walk-first-requires : tie.Need-walk-first-requires Inv-loop μ-loop
-walk-first-requires c κs = search needs
+first-requires : tie.Need-first-requires Inv-loop μ-loop
+first-requires c κs = search needs
 
 loop-holds : tie.Need-loop-holds Inv-loop μ-loop
 loop-holds c = search needs
@@ -19,8 +19,8 @@ loop-holds c = search needs
 add-n : tie.Need-add-n Inv-loop μ-loop
 add-n c = search needs
 
-walk-next-requires : tie.Need-walk-next-requires Inv-loop μ-loop
-walk-next-requires c κs = search needs
+next-requires : tie.Need-next-requires Inv-loop μ-loop
+next-requires c κs = search needs
 
 loop-less : tie.Need-loop-less Inv-loop μ-loop
 loop-less c = search needs
@@ -37,15 +37,6 @@ say-requires c κs = search needs
 number-requires : tie.Need-number-requires Inv-loop μ-loop
 number-requires c κs = search needs
 
-slice-aggregate-say-2 : tie.Need-slice-aggregate-say-2 Inv-loop μ-loop
-slice-aggregate-say-2 c = search needs
-
-say-requires-2 : tie.Need-say-requires-2 Inv-loop μ-loop
-say-requires-2 c κs = search needs
-
-word-requires : tie.Need-word-requires Inv-loop μ-loop
-word-requires c κs = search needs
-
 returns : tie.Need-returns Inv-loop μ-loop
 returns c = search needs
 
@@ -55,16 +46,13 @@ walk-spec =
     (tie.spec
     Inv-loop
     μ-loop
-    walk-first-requires
+    first-requires
     loop-holds
     add-n
-    walk-next-requires
+    next-requires
     loop-less
     loop-again
     slice-aggregate-say
     say-requires
     number-requires
-    slice-aggregate-say-2
-    say-requires-2
-    word-requires
     returns)
