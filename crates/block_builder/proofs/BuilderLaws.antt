@@ -29,7 +29,7 @@ unfolding newBuilder countIn noEntries
 counting-none i = record { every = refl; counts = sym (count-none i); whole = length-replicate {A = ℕ} 1032 0 }
 
 -- the builder with counts, after the last key, holds them
-counts-with : (b : BlockBuilder) (c : BlockCount) → length (c .last) ≤ length (b .last) → countIn (builderWith b c (c .last)) ≡ c
+pub counts-with : (b : BlockBuilder) (c : BlockCount) → length (c .last) ≤ length (b .last) → countIn (builderWith b c (c .last)) ≡ c
 unfolding countIn builderWith
 counts-with b c h =
     let k : take (length (c .last)) (put (b .last) 0 (c .last)) ≡ c .last = rw zero-add at (put-front (b .last) 0 (c .last) (omega arith)) in

@@ -220,20 +220,6 @@ module _ (g : Entry → Bool) (k : Point) (lower : (x : Entry) → pointOf (x .k
   skip-entries (b ∷ bs) e cs (Pairs.cons q qs) h =
       first-no g b (bs ++ (e ∷ cs)) (lower b (≺-trans (all-mem q (Memᴰ·append-right bs (List·Memᴰ·head refl))) h)) ∙ skip-entries bs e cs qs h
 
-  -- from a restart whose entry is below the target on, the same is found
-  pub record FromRestart (s : List ℕ) (r : ℕ) (es : List Entry) : Type 0 where
-    pub restart : Restart s r es
-    pub finds : pointOf (restart .entry-at .here .key) ≺ k → first g es ≡ first g (restart .entry-at .here ∷ restart .entry-at .after)
-
-  pub from-restart : (s : List ℕ) (rs : List ℕ) (es : List Entry) → Reads s 0 [] es → T (restartsStand rs es) → Pairs EntryBefore es → (r : ℕ) → List·Memᴰ r rs → FromRestart s r es
-  from-restart s rs es read stand p r m =
-      let f = restart-reads s rs es read stand r m in
-      let a = f .entry-at in
-      record {
-        restart = f;
-        finds = λ h. ap (first g) (a .whole) ∙ skip-entries (a .before) (a .here) (a .after) (rw (a .whole) at p) h;
-      }
-
 -- ---- how many entries at most does not matter, where it is enough
 
 pub fuel-enough : (n m : ℕ) (s : List ℕ) (at : ℕ) (before : List ℕ) → at ≤ length s → length s < n + at → length s < m + at
