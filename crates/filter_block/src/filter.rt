@@ -145,6 +145,13 @@ fn rotated(h: u32) -> u32
     (h << 15) | (h >> 17)
 }
 
+// The probe after x, a step of d further, kept to the low 32 bits.
+fn next_probe(x: u32, d: u32) -> u32
+    ensures { λ r. ⌜ r ≡ (x + d) % 2 ^ 32 ⌝ }
+{
+    std::num::wrapping_add_u32(x, d)
+}
+
 // Whether bit p is set.
 fn is_raised(bits: &[u8], p: usize) -> bool
     requires { ⌜ p < 8 * length (now bits) ⌝ }
@@ -176,7 +183,7 @@ fn raise_places(bits: &mut [u8], k: u32, h: u32)
     let mut i: u32 = 0;
     while i < k {
         raise_bit(bits, (x as usize) % n);
-        x = std::num::wrapping_add_u32(x, d);
+        x = next_probe(x, d);
         i = i + 1;
     }
 }
@@ -260,7 +267,7 @@ fn all_raised(bits: &[u8], k: u32, h: u32) -> bool
         if !is_raised(bits, (x as usize) % n) {
             return false;
         }
-        x = std::num::wrapping_add_u32(x, d);
+        x = next_probe(x, d);
         i = i + 1;
     }
     true

@@ -50,8 +50,8 @@ returns c =
     let t = ap (λ (q : ℕ). eqb (bit s q) 1) (sym p) ∙ sym (c .before .is-raised .ensures) ∙ not-true _ (c .if1 .taken) in
     raised-next s (a .k) (l .i) m (l .x) _ false (omega arith) t ∙ l .inv .2
 
-wrapping-add-u32-requires : tie.Need-wrapping-add-u32-requires Inv-loop μ-loop
-wrapping-add-u32-requires c κs = search needs
+next-probe-requires : tie.Need-next-probe-requires Inv-loop μ-loop
+next-probe-requires c κs = search needs
 
 add-i : tie.Need-add-i Inv-loop μ-loop
 add-i c = search needs
@@ -70,7 +70,7 @@ loop-again c =
     let t = ap (λ (q : ℕ). eqb (bit s q) 1) (sym p) ∙ sym (c .before .before .is-raised .ensures) ∙ not-false _ (c .before .if1 .left) in (
       omega arith,
       omega arith,
-      ap (λ (x : ℕ). allRaised s (places (a .k - (l .i + 1)) m x d)) (c .wrapping-add-u32 .ensures) ∙ raised-next s (a .k) (l .i) m (l .x) d true (omega arith) t ∙ l .inv .2,
+      ap (λ (x : ℕ). allRaised s (places (a .k - (l .i + 1)) m x d)) (c .next-probe .ensures) ∙ raised-next s (a .k) (l .i) m (l .x) d true (omega arith) t ∙ l .inv .2,
     )
 
 returns-2 : tie.Need-returns-2 Inv-loop μ-loop
@@ -92,7 +92,7 @@ all-raised-spec =
     rem-is-raised
     is-raised-requires
     returns
-    wrapping-add-u32-requires
+    next-probe-requires
     add-i
     loop-less
     loop-again

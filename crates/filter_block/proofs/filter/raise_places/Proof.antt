@@ -39,8 +39,8 @@ raise-bit-requires c κs =
     let l = c .before .before .loop in
     rw (l .inv .2) (place-in (c .before .before .before .before .before .before .args .bits .now) _ (l .x) (search needs) (c .before .before .before .before .span .ensures) (l .inv .1))
 
-wrapping-add-u32-requires : tie.Need-wrapping-add-u32-requires Inv-loop μ-loop
-wrapping-add-u32-requires c κs = search needs
+next-probe-requires : tie.Need-next-probe-requires Inv-loop μ-loop
+next-probe-requires c κs = search needs
 
 add-i : tie.Need-add-i Inv-loop μ-loop
 add-i c = search needs
@@ -56,7 +56,7 @@ loop-again c =
     let d = c .before .before .before .before .before .before .before .rotated .result in
     let p = place-is (8 * length s) _ (l .x) (c .before .before .before .before .before .before .before .before .span .ensures) (l .inv .1) in
     let r = c .before .before .before .raise-bit .ensures ∙ ap (raise (l .bits)) p in
-    let w = c .wrapping-add-u32 .ensures in (
+    let w = c .next-probe .ensures in (
       omega arith,
       omega arith,
       ap length r ∙ raise-length (l .bits) _ ∙ l .inv .2,
@@ -84,7 +84,7 @@ raise-places-spec =
     cast-raise-bit
     rem-raise-bit
     raise-bit-requires
-    wrapping-add-u32-requires
+    next-probe-requires
     add-i
     loop-less
     loop-again
