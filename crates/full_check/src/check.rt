@@ -61,7 +61,10 @@ fn entries_end(s: &[u8]) -> usize
 fn same_point(a: &[u8], b: &[u8]) -> bool
     ensures { λ r. ⌜ r ≡ isEq (byPoint (pointOf (now (a .entry))) (pointOf (now (b .entry)))) ⌝ }
 {
-    keys::cmp::is_equal(keys::key_types::cmp_internal_key(a, b))
+    if keys::key_types::key_below(a, b) {
+        return false;
+    }
+    !keys::key_types::key_below(b, a)
 }
 
 // Whether b may come after a in a block of a kind; the first key may always come.

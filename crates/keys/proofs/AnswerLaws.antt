@@ -3,7 +3,6 @@ use Prim.Native.Nat.{ℕ, zero, suc, _+_, _*_, _-_, _/_, _%_, _^_, _≤_, _<_, c
 use mathlib.Core.Path.{_≡_, refl, sym, ap, _∙_}
 use mathlib.Core.List.{List, []}
 use native.Mathlib.Omega.{arith}
-use lib.Dec.{isEq}
 use lib.ListN.{length, drop, getD, length-drop}
 use lib.Seq.{drop-cons}
 use borrow.Author.Tests.{lt-ltb, le-ltb}
@@ -15,7 +14,7 @@ use Rattle.keys.specs.declared.cmp.Ordering as OrderingEnum
 use Rattle.keys.specs.declared.cmp.Ordering.the-variants.{Less, Equal, Greater}
 use Rattle.keys.specs.declared.key_types.KeyRead.the-variants.{Key, TooShort}
 use Rattle.keys.specs.declared.key_types.ValueType.the-variants.{TypeValue}
-use Rattle.keys.specs.Answers.{orderAnswer, saysLess, saysEqual, kindAnswer, keyAnswer}
+use Rattle.keys.specs.Answers.{orderAnswer, saysLess, kindAnswer, keyAnswer}
 use Rattle.keys.specs.Order.{isLess, andThen, byBytes, userOf, tagOf, seqOf, kindOf, pointOf, byPoint}
 
 -- ---- comparisons
@@ -30,12 +29,12 @@ pub order-said : (o : Ordering) {r : OrderingEnum.Ordering} → orderAnswer o �
 unfolding orderAnswer
 order-said = came-of orderAnswer orderIn (λ o. elim o [ Ordering·lt ↦ refl | Ordering·eq ↦ refl | Ordering·gt ↦ refl ])
 
--- "less" and "equal" are said of what is so
-pub says-order : (o : Ordering) → (saysLess (orderAnswer o) ≡ isLess o) × (saysEqual (orderAnswer o) ≡ isEq o)
+-- "less" is said of what is so
+pub says-less : (o : Ordering) → saysLess (orderAnswer o) ≡ isLess o
 unfolding orderAnswer
-says-order Ordering·lt = (refl, refl)
-says-order Ordering·eq = (refl, refl)
-says-order Ordering·gt = (refl, refl)
+says-less Ordering·lt = refl
+says-less Ordering·eq = refl
+says-less Ordering·gt = refl
 
 -- a key against a target: the words decide, or where they are equal the sequences
 module _ (k w : List ℕ) (s : ℕ) {u : List ℕ} (isU : u ≡ userOf k) where

@@ -1,6 +1,7 @@
 -- Bytes compared by several at a time: two numbers of as many bytes, greatest first, are ordered as the bytes are.
-use Prim.Native.Nat.{ℕ, zero, suc, _+_, _*_, _-_, _^_, _≤_, _<_, min, compare, Ordering, Ordering·lt, Ordering·eq, Ordering·gt}
+use Prim.Native.Nat.{ℕ, zero, suc, _+_, _*_, _-_, _^_, _≤_, _<_, min, compare, Ordering, Ordering·lt, Ordering·eq, Ordering·gt, compare·zero-suc, compare·suc-zero, compare·suc-suc}
 use mathlib.Core.Path.{_≡_, refl, sym, ap, ap₂, _∙_}
+use mathlib.Core.Bool.{false, _&&_, and-false}
 use mathlib.Core.List.{List, [], _∷_, _++_}
 use native.Mathlib.Nat.{add-zero, add-suc, suc-add, mul-le-mul-right, pow-succ'}
 use native.Mathlib.Numerals.{add-one}
@@ -9,7 +10,7 @@ use lib.ListN.{length, take, drop, getD, length-drop}
 use lib.Seq.{take-add, take-take, drop-cons, take-suc}
 use lib.Dec.{eqb}
 use borrow.Author.Tests.{eq-eqb, ne-eqb, eqb-true, eqb-false}
-use Rattle.codec.specs.Bytes.{part, common}
+use Rattle.codec.specs.Bytes.{part, sameBytes, common}
 use Rattle.codec.proofs.Prelude.{test, split}
 use Rattle.codec.proofs.Lists.{Below}
 use Rattle.codec.proofs.BytesLaws.{part-length, part-below}
@@ -195,3 +196,21 @@ bytes-common (x ∷ a) (y ∷ b) ha hb =
     (λ t.
     let m : common (x ∷ a) (y ∷ b) ≡ 0 = rw (t, common) in
     rw m (sym (then-apart (compare x y) (byBytes a b) (λ e. eqb-false x y t (compare-eq x y e)))))
+
+-- two are the same where they have one length and share as much
+same-shared : (a b : List ℕ) → eqb (length a) (length b) && eqb (common a b) (length a) ≡ sameBytes a b
+unfolding sameBytes common
+same-shared [] [] = refl
+same-shared [] (y ∷ b) = simp compare·zero-suc
+same-shared (x ∷ a) [] = simp compare·suc-zero
+same-shared (x ∷ a) (y ∷ b) =
+    test (eqb x y)
+    (λ t. rw (t, common) (simp compare·suc-suc (same-shared a b)))
+    (λ t. rw (t, common) (simp (compare·zero-suc, and-false)))
+
+module _ (a b : List ℕ) where
+  pub lengths-apart : (length a ≡ length b → ⊥) → false ≡ sameBytes a b
+  lengths-apart d = rw (ne-eqb (length a) (length b) d) at (same-shared a b)
+
+  pub same-common : length a ≡ length b → {n : ℕ} → n ≡ common a b → eqb n (length a) ≡ sameBytes a b
+  same-common e n-is = rw (eq-eqb (length a) (length b) e, ← n-is) at (same-shared a b)

@@ -3,12 +3,10 @@ use Prim.Native.Nat.{ℕ, zero, suc, _≤_, _<_, compare, Ordering, Ordering·lt
 use mathlib.Core.Path.{_≡_, refl, sym, ap, ap₂, _∙_}
 use mathlib.Core.Logic.{_⊎_, inl, inr}
 use mathlib.Core.List.{List, [], _∷_}
-use mathlib.Core.Bool.{Bool, true, false, not, false≢true, Bool·not-not}
+use mathlib.Core.Bool.{Bool, true, false, _&&_, not, Bool·not-not}
 use native.Mathlib.Omega.{arith}
 use lib.Dec.{T, isLe, leb, isEq, eqb→eq, leb→le, le→leb, T-not}
-use Rattle.codec.specs.Bytes.{sameBytes}
-use Rattle.codec.proofs.BytesLaws.{same-same, same-bytes}
-use Rattle.codec.proofs.Prelude.{test, is-true, is-false, true-is}
+use Rattle.codec.proofs.Prelude.{is-true, is-false}
 use Rattle.keys.specs.Order.{andThen, isLess, byBytes, Point, pointOf, byPoint, below}
 
 -- ---- comparisons: how the answers on (a, b), (b, c) and (a, c) hang together
@@ -143,18 +141,6 @@ pub bytes-same : (a : List ℕ) → byBytes a a ≡ Ordering·eq
 unfolding byBytes
 bytes-same [] = refl
 bytes-same (x ∷ xs) = rw (compare-same x, bytes-same xs)
-
--- bytes that compare as equal are the same
-pub bytes-are : (a b : List ℕ) → isEq (byBytes a b) ≡ sameBytes a b
-bytes-are a b =
-    test (sameBytes a b)
-    (λ t. let e : byBytes a b ≡ Ordering·eq = rw (same-bytes a b (true-is t)) (bytes-same b) in ap isEq e ∙ sym t)
-    (λ f. go (byBytes a b) refl f)
-  where
-    go : (o : Ordering) → byBytes a b ≡ o → sameBytes a b ≡ false → isEq (byBytes a b) ≡ sameBytes a b
-    go Ordering·lt e f = ap isEq e ∙ sym f
-    go Ordering·gt e f = ap isEq e ∙ sym f
-    go Ordering·eq e f = absurd (false≢true (sym f ∙ rw (bytes-eq a b e) (same-same b)))
 
 -- ---- points
 
@@ -352,3 +338,13 @@ below-trans a b c s t = less-below a c (≺-trans (below-less a b s) (below-less
 -- a < b ≤ c
 pub below-le : (a b c : List ℕ) → below a b ≡ true → below c b ≡ false → below a c ≡ true
 below-le a b c s t = less-below a c (≺-≼ (below-less a b s) (notBelow-upTo b c t))
+
+-- two are equal where neither is below the other
+pub neither-below : (a b : List ℕ) {s t : Bool} → s ≡ below a b → t ≡ below b a → not s && not t ≡ isEq (byPoint (pointOf a) (pointOf b))
+unfolding below
+neither-below a b e f = rw (e, f, point-turned (pointOf a) (pointOf b)) (go (byPoint (pointOf a) (pointOf b)))
+  where
+    go : (o : Ordering) → not (isLess o) && not (isLess (turned o)) ≡ isEq o
+    go Ordering·lt = refl
+    go Ordering·eq = refl
+    go Ordering·gt = refl

@@ -24,12 +24,6 @@ saysLess OrderCase.Less = true
 saysLess OrderCase.Equal = false
 saysLess OrderCase.Greater = false
 
--- it says "equal"
-abbrev pub saysEqual : OrderingEnum.Ordering → Bool
-saysEqual OrderCase.Less = false
-saysEqual OrderCase.Equal = true
-saysEqual OrderCase.Greater = false
-
 -- a kind byte: 0 is a deletion, any other a value
 unfoldable pub kindAnswer : ℕ → ValueType
 kindAnswer zero = KindCase.TypeDeletion

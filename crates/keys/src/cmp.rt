@@ -5,7 +5,7 @@ ghost use Prim.Native.Nat.{compare, min, _+_, _*_, _≤_, _<_};
 ghost use lib.ListN.{length, take};
 ghost use Rattle.codec.specs.Bytes.{common, part, sameBytes};
 ghost use Rattle.codec.specs.Put.{Wrote};
-ghost use Rattle.keys.specs.Answers.{orderAnswer, saysLess, saysEqual};
+ghost use Rattle.keys.specs.Answers.{orderAnswer, saysLess};
 ghost use Rattle.keys.specs.Order.{byBytes, bytesBelow, shortestSep, userSep, lastTag, separator, shortSucc};
 ghost use Rattle.keys.specs.Plan.{bigOf, Raisable, raised, RaisesFirst, RaisesLast, sepBytes, SepFits, Planned, FirstLow};
 use codec::limits::least;
@@ -149,17 +149,6 @@ pub fn is_less(o: Ordering) -> bool
     }
 }
 
-// Whether a comparison says "equal".
-pub fn is_equal(o: Ordering) -> bool
-    ensures { λ r. ⌜ r ≡ saysEqual o ⌝ }
-{
-    match o {
-        Ordering::Less => false,
-        Ordering::Equal => true,
-        Ordering::Greater => false,
-    }
-}
-
 // Whether a is below b.
 pub fn below(a: &[u8], b: &[u8]) -> bool
     ensures { λ r. ⌜ r ≡ bytesBelow (now (a .entry)) (now (b .entry)) ⌝ }
@@ -171,7 +160,10 @@ pub fn below(a: &[u8], b: &[u8]) -> bool
 pub fn same(a: &[u8], b: &[u8]) -> bool
     ensures { λ r. ⌜ r ≡ sameBytes (now (a .entry)) (now (b .entry)) ⌝ }
 {
-    is_equal(cmp(a, b))
+    if a.len() != b.len() {
+        return false;
+    }
+    common_len(a, b) == a.len()
 }
 
 // Whether the bytes of front, x and those of back are below b.

@@ -1,20 +1,17 @@
 -- `keys::cmp::same` meets its contract.
-use mathlib.Core.Path.{ap, _∙_}
-use Rattle.keys.specs.Answers.{saysEqual}
-use Rattle.keys.proofs.AnswerLaws.{says-order}
-use Rattle.keys.proofs.OrderLaws.{bytes-are}
+use Rattle.keys.proofs.CompareLaws.{lengths-apart, same-common}
 use borrow.Author.Needs.{needs}
 use Rattle.keys.proofs.cmp.same.Statement.{statement}
 use Rattle.keys.proofs.cmp.same.Tie as tie
 
-cmp-requires : tie.Need-cmp-requires
-cmp-requires c κs = search needs
-
-is-equal-requires : tie.Need-is-equal-requires
-is-equal-requires c κs = search needs
-
 returns : tie.Need-returns
-returns c = c .is-equal .ensures ∙ ap saysEqual (c .before .cmp .ensures) ∙ says-order _ .1 ∙ bytes-are _ _
+returns c = lengths-apart _ _ (c .if1 .taken)
+
+common-len-requires : tie.Need-common-len-requires
+common-len-requires c κs = search needs
+
+returns-2 : tie.Need-returns-2
+returns-2 c = same-common _ _ (c .before .if1 .left) (c .common-len .ensures)
 
 pub same-spec : {M : Type 1} → statement M
-same-spec = tie.close (tie.spec cmp-requires is-equal-requires returns)
+same-spec = tie.close (tie.spec returns common-len-requires returns-2)

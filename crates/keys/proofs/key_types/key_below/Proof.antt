@@ -2,7 +2,7 @@
 use mathlib.Core.Path.{ap, _∙_}
 use Rattle.keys.specs.Answers.{saysLess}
 use Rattle.keys.specs.Order.{below}
-use Rattle.keys.proofs.AnswerLaws.{says-order}
+use Rattle.keys.proofs.AnswerLaws.{says-less}
 use borrow.Author.Needs.{needs}
 use Rattle.keys.proofs.key_types.key_below.Statement.{statement}
 use Rattle.keys.proofs.key_types.key_below.Tie as tie
@@ -15,7 +15,7 @@ is-less-requires c κs = search needs
 
 returns : tie.Need-returns
 unfolding below
-returns c = c .is-less .ensures ∙ ap saysLess (c .before .cmp-internal-key .ensures) ∙ says-order _ .0
+returns c = c .is-less .ensures ∙ ap saysLess (c .before .cmp-internal-key .ensures) ∙ says-less _
 
 pub key-below-spec : {M : Type 1} → statement M
 key-below-spec = tie.close (tie.spec cmp-internal-key-requires is-less-requires returns)
