@@ -34,7 +34,7 @@ use Rattle.block_reader.proofs.WalkLaws.{from-end, from-none, from-some
 
 -- ---- a value that is a handle
 
-pub not-handle : (s : List ℕ) → oneHandleAnswer (oneHandle s) ≡ OneCase.Bad → false ≡ isHandle s
+pub not-handle : (s : List ℕ) → oneHandleAnswer (oneHandle s) ≡ OneCase.None → false ≡ isHandle s
 unfolding isHandle
 not-handle s e = rw (one-said (oneHandle s) e, isHandle)
 

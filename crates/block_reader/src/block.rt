@@ -293,7 +293,7 @@ fn is_handle(s: &[u8]) -> bool
     ensures { λ r. ⌜ r ≡ isHandle (now (s .entry)) ⌝ }
 {
     match codec::blockhandle::one_handle(s) {
-        OneHandle::Bad => false,
+        OneHandle::None => false,
         OneHandle::Handle { offset: _, size: _ } => true,
     }
 }

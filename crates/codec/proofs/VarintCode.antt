@@ -92,7 +92,7 @@ handleIn HandleCase.Bad = none
 handleIn (HandleCase.Handle v w n) = some (record { handle = record { offset = v; size = w }; size = n })
 
 abbrev pub oneIn : OneHandle → Option Handle
-oneIn OneCase.Bad = none
+oneIn OneCase.None = none
 oneIn (OneCase.Handle v w) = some (record { offset = v; size = w })
 
 pub varint-said : (o : Option Read) {r : VarintRead} → varintAnswer o ≡ r → o ≡ varintIn r
@@ -128,7 +128,7 @@ module _ (s : List ℕ) where
   unfolding handleAnswer
   both {v} {n} e f = rw (handle-some s _ _ (varint-said _ e) (varint-said _ f))
 
-  pub none-there : handleAnswer (handle s) ≡ HandleCase.Bad → OneCase.Bad ≡ oneHandleAnswer (oneHandle s)
+  pub none-there : handleAnswer (handle s) ≡ HandleCase.Bad → OneCase.None ≡ oneHandleAnswer (oneHandle s)
   unfolding oneHandleAnswer oneHandle _>>=_
   none-there e = rw (handle-said (handle s) e)
 
@@ -136,6 +136,6 @@ module _ (s : List ℕ) where
   unfolding oneHandleAnswer
   one-there e h = rw (one-some s _ (handle-said _ e) h)
 
-  pub more-there : {v w n : ℕ} → handleAnswer (handle s) ≡ HandleCase.Handle v w n → (n ≡ length s → ⊥) → OneCase.Bad ≡ oneHandleAnswer (oneHandle s)
+  pub more-there : {v w n : ℕ} → handleAnswer (handle s) ≡ HandleCase.Handle v w n → (n ≡ length s → ⊥) → OneCase.None ≡ oneHandleAnswer (oneHandle s)
   unfolding oneHandleAnswer
   more-there e h = rw (one-left s _ (handle-said _ e) h)

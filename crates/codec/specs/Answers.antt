@@ -35,5 +35,5 @@ handleAnswer (some r) = HandleCase.Handle (r .handle .offset) (r .handle .size) 
 
 -- one handle and nothing more
 unfoldable pub oneHandleAnswer : Option Handle → OneHandle
-oneHandleAnswer none = OneCase.Bad
+oneHandleAnswer none = OneCase.None
 oneHandleAnswer (some h) = OneCase.Handle (h .offset) (h .size)

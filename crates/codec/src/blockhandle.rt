@@ -16,10 +16,10 @@ pub enum HandleRead {
     Bad,
 }
 
-// One handle and nothing more, or not.
+// One handle and nothing more, or none.
 pub enum OneHandle {
     Handle { offset: usize, size: usize },
-    Bad,
+    None,
 }
 
 // The handle that starts s.
@@ -47,7 +47,7 @@ pub fn one_handle(s: &[u8]) -> OneHandle
     ensures { λ r. ⌜ r ≡ oneHandleAnswer (oneHandle (now (s .entry))) ⌝ }
 {
     match decode(s) {
-        HandleRead::Bad => OneHandle::Bad,
+        HandleRead::Bad => OneHandle::None,
         HandleRead::Handle { offset, size, len } => {
             if len == s.len() {
                 OneHandle::Handle {
@@ -55,7 +55,7 @@ pub fn one_handle(s: &[u8]) -> OneHandle
                     size: size,
                 }
             } else {
-                OneHandle::Bad
+                OneHandle::None
             }
         }
     }

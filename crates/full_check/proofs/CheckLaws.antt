@@ -8,7 +8,6 @@ use lib.ListN.{length, take, drop}
 use Rattle.codec.specs.Checksum.{trailerStands}
 use Rattle.codec.specs.Varint.{Handle}
 use Rattle.codec.proofs.BytesLaws.{part-between}
-use Rattle.codec.proofs.Prelude.{came-of}
 use Rattle.keys.specs.Order.{userOf, below}
 use Rattle.block_reader.specs.declared.block.Kind.the-variants as KindCase
 use Rattle.blocks.specs.Block.{Pair, Entry, lastKeyOf, pairsOf}
@@ -17,9 +16,7 @@ use Rattle.block_reader.specs.Said.{kindOf}
 use Rattle.filters.specs.Filter.{hash}
 use Rattle.filters.specs.FilterBlock.{filterFormed, mayMatch}
 use Rattle.table_block.specs.declared.footer.FooterRead.the-variants as FooterCase
-use Rattle.table_block.specs.declared.table_block.FilterRead.{FilterRead}
-use Rattle.table_block.specs.declared.table_block.FilterRead.the-variants as FilterCase
-use Rattle.table_block.specs.Answers.{footerAnswer, bloomAnswer}
+use Rattle.table_block.specs.Answers.{footerAnswer}
 use Rattle.table.specs.Checked.{Checked, pass, refuse, _>>=_, ask}
 use Rattle.table.specs.Table.{endsBefore, placed, Footer, footer, contents, sealed, blockOf, sortedAt, bloomHandle, filterOf, mayHold, opened, Edge, firstFollows, handleOf, dataBlockOf, dataBlocksOf, fullCheck}
 use Rattle.table_block.proofs.FooterLaws.{footer-said}
@@ -100,15 +97,6 @@ module _ (t : List ℕ) (ixs : List Pair) where
         pub filter-stands : filterFormed (take (offset + size - offset) (drop offset t)) ≡ true → withFilter t (some (record { offset = offset; size = size })) ixs ≡ blocksAt t (take (offset + size - offset) (drop offset t)) none ixs
         unfolding withFilter filterOf placed sealed contents filterBytes ask _>>=_
         filter-stands e = rw (p, q, ← part-between t offset size, e) (blocks-same t (some (take (offset + size - offset) (drop offset t))) none ixs)
-
--- what the metaindex names
-abbrev pub bloomIn : FilterRead → Option Handle
-bloomIn FilterCase.None = none
-bloomIn (FilterCase.Handle a b) = some (record { offset = a; size = b })
-
-pub bloom-said : (o : Option Handle) {r : FilterRead} → bloomAnswer o ≡ r → o ≡ bloomIn r
-unfolding bloomAnswer
-bloom-said = came-of bloomAnswer bloomIn (λ o. elim o [ none ↦ refl | some h ↦ refl ])
 
 -- ---- metaindex and index
 

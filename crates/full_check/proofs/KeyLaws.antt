@@ -138,7 +138,7 @@ module _ (before : Option Edge) (ix : List ℕ) (ps : List Pair) where
 
 -- ---- an index value
 
-pub handle-bad : (s : List ℕ) → oneHandleAnswer (oneHandle s) ≡ OneCase.Bad → (0 ≡ handleOf s .offset) × (0 ≡ handleOf s .size)
+pub handle-bad : (s : List ℕ) → oneHandleAnswer (oneHandle s) ≡ OneCase.None → (0 ≡ handleOf s .offset) × (0 ≡ handleOf s .size)
 unfolding handleOf
 handle-bad s e = rw (one-said (oneHandle s) e, handleOf) (refl, refl)
 

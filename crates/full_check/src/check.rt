@@ -21,7 +21,6 @@ use block_reader::block::Kind;
 use block_reader::block::RowsRead;
 use codec::blockhandle::OneHandle;
 use table_block::footer::FooterRead;
-use table_block::table_block::FilterRead;
 
 // The full check's answer: that the table passes, or the refusal's number.
 pub enum Verdict {
@@ -312,7 +311,7 @@ fn handle_of(value: &[u8]) -> Place
     ensures { λ r. ⌜ (r .offset ≡ handleOf (now (value .entry)) .offset) × (r .size ≡ handleOf (now (value .entry)) .size) ⌝ }
 {
     match codec::blockhandle::one_handle(value) {
-        OneHandle::Bad => Place { offset: 0, size: 0 },
+        OneHandle::None => Place { offset: 0, size: 0 },
         OneHandle::Handle { offset, size } => Place { offset, size },
     }
 }
@@ -399,8 +398,8 @@ fn rest(table: &[u8], metaindex: &[u8], index: &[u8]) -> Verdict
     ensures { λ r. ⌜ ((ms es : List Entry) → readable (now (metaindex .entry)) ≡ some ms → readable (now (index .entry)) ≡ some es → r ≡ verdictOf (withFilter (now (table .entry)) (bloomHandle (pairsOf ms)) (pairsOf es))) ⌝ }
 {
     match table_block::table_block::bloom_handle(metaindex) {
-        FilterRead::None => blocks(table, b"", index),
-        FilterRead::Handle { offset, size } => filtered(table, index, offset, size),
+        OneHandle::None => blocks(table, b"", index),
+        OneHandle::Handle { offset, size } => filtered(table, index, offset, size),
     }
 }
 

@@ -9,6 +9,7 @@ use mathlib.Core.Logic.{_⊎_}
 use lib.ListN.{length, take}
 use Rattle.codec.specs.Put.{Wrote}
 use Rattle.codec.specs.Shown.{Shown}
+use Rattle.codec.specs.declared.blockhandle.OneHandle.{OneHandle}
 use Rattle.codec.specs.declared.put.Written.{Written}
 use Rattle.keys.specs.Order.{Point}
 use Rattle.blocks.specs.Block.{Entry}
@@ -29,7 +30,6 @@ use Rattle.block_reader.specs.declared.block.Found as BlockFound
 use Rattle.block_reader.specs.Said.{Said}
 use Rattle.filter_block.specs.declared.filter_block.Made.{Made}
 use Rattle.filter_block.specs.Make.{MadeFilters}
-use Rattle.table_block.specs.declared.table_block.FilterRead.{FilterRead}
 use Rattle.table_block.specs.Answers.{BloomRead}
 use Rattle.builder.specs.declared.table_builder.Options as Given
 use Rattle.builder.specs.declared.table_builder.Builder.{Builder}
@@ -85,7 +85,7 @@ saidFixed = (s : List ℕ) (says : List Entry → Option (Option Entry)) (ordere
 
 -- the filter block's handle
 abbrev pub bloomFixed : Type 0
-bloomFixed = (s : List ℕ) (es : List Entry) → readable s ≡ some es → Fixed FilterRead (BloomRead s)
+bloomFixed = (s : List ℕ) (es : List Entry) → readable s ≡ some es → Fixed OneHandle (BloomRead s)
 
 -- ---- a table, unless the full check refuses it for more than its footer
 

@@ -31,7 +31,7 @@ use Rattle.reader.proofs.HitLaws.{Picks, Asks, readable-tells, room}
 -- ---- as code finds it
 
 module _ (len start : ℕ) (s : List ℕ) where
-  pub not-located : oneHandleAnswer (oneHandle s) ≡ OneCase.Bad → LocatedCase.Refused 10 ≡ byHandle len start (oneHandle s)
+  pub not-located : oneHandleAnswer (oneHandle s) ≡ OneCase.None → LocatedCase.Refused 10 ≡ byHandle len start (oneHandle s)
   unfolding byHandle
   not-located e = rw (one-said (oneHandle s) e)
 

@@ -6,6 +6,9 @@ use mathlib.Core.Bool.{Bool, true, false, not, false≢true}
 use mathlib.Core.Option.{Option, none, some, Option·map}
 use lib.Dec.{T, eqb}
 use lib.ListN.{length, take}
+use Rattle.codec.specs.declared.blockhandle.OneHandle.{OneHandle}
+use Rattle.codec.specs.declared.blockhandle.OneHandle.the-variants as OneCase
+use Rattle.codec.specs.Answers.{oneHandleAnswer}
 use Rattle.codec.specs.Bytes.{part, sameBytes}
 use Rattle.codec.specs.Maybe.{first}
 use Rattle.codec.specs.Varint.{Handle}
@@ -18,9 +21,7 @@ use Rattle.blocks.specs.Search.{readable, reaches, seekIn}
 use Rattle.blocks.proofs.FormedLaws.{formed-readable}
 use Rattle.filters.specs.Filter.{hash}
 use Rattle.filters.specs.FilterBlock.{mayMatch}
-use Rattle.table_block.specs.declared.table_block.FilterRead.{FilterRead}
-use Rattle.table_block.specs.declared.table_block.FilterRead.the-variants as FilterCase
-use Rattle.table_block.specs.Answers.{bloomAnswer, BloomRead}
+use Rattle.table_block.specs.Answers.{BloomRead}
 use Rattle.table.specs.Checked.{pass}
 use Rattle.table.specs.Table
 use Rattle.table.specs.Table.{Footer, endsBefore, placed, sealed, contents, bloomHandle, filterOf, mayHold, Opened, opened, handleOf, entriesAt, foundIn, foundsOf}
@@ -68,8 +69,8 @@ meta t {offset} {size} n {o} op =
       filter = filter ∙ ap (λ (x : Opened). pass (x .filter)) (pass-same r);
     }
 
-filter-none : (t : List ℕ) (o : Option Handle) {f : Option (List ℕ)} → filterOf t o ≡ pass f → bloomAnswer o ≡ FilterCase.None → f ≡ none
-unfolding filterOf bloomAnswer
+filter-none : (t : List ℕ) (o : Option Handle) {f : Option (List ℕ)} → filterOf t o ≡ pass f → oneHandleAnswer o ≡ OneCase.None → f ≡ none
+unfolding filterOf oneHandleAnswer
 filter-none t none e a = sym (pass-same e)
 filter-none t (some h) e a = apart cc
 
@@ -77,8 +78,8 @@ record Filtered (t : List ℕ) (h : Handle) (f : Option (List ℕ)) : Type 0 whe
   inside : endsBefore (length t) (h .offset) (h .size) ≡ true
   is : f ≡ some (contents t h)
 
-filter-some : (t : List ℕ) (o : Option Handle) {f : Option (List ℕ)} {a b : ℕ} → filterOf t o ≡ pass f → bloomAnswer o ≡ FilterCase.Handle a b → Filtered t (record { offset = a; size = b }) f
-unfolding filterOf bloomAnswer placed sealed
+filter-some : (t : List ℕ) (o : Option Handle) {f : Option (List ℕ)} {a b : ℕ} → filterOf t o ≡ pass f → oneHandleAnswer o ≡ OneCase.Handle a b → Filtered t (record { offset = a; size = b }) f
+unfolding filterOf oneHandleAnswer placed sealed
 filter-some t none e a-is = apart cc
 filter-some t (some h) {f} {a} {b} e a-is =
     asking _ _ _ e λ inside p.
@@ -90,12 +91,12 @@ filter-some t (some h) {f} {a} {b} e a-is =
     let r : Filtered t (record { offset = h .offset; size = h .size }) f = record { inside = there; is = sym (pass-same p) } in
     rw (x, y) at r
 
-module _ (t : List ℕ) {at size : ℕ} (n : Named t at size) (offset : ℕ) (word : List ℕ) {s : List ℕ} {r : FilterRead} (s-is : s ≡ part t at size) (b : BloomRead s r) where
-  answered : {o : Opened} (op : opened t ≡ pass o) → r ≡ bloomAnswer (bloomHandle (pairsOf (meta t n op .entries)))
+module _ (t : List ℕ) {at size : ℕ} (n : Named t at size) (offset : ℕ) (word : List ℕ) {s : List ℕ} {r : OneHandle} (s-is : s ≡ part t at size) (b : BloomRead s r) where
+  answered : {o : Opened} (op : opened t ≡ pass o) → r ≡ oneHandleAnswer (bloomHandle (pairsOf (meta t n op .entries)))
   unfolding contents
   answered op = b .answer (meta t n op .entries) (rw s-is (meta t n op .reads))
 
-  pub held-none : r ≡ FilterCase.None → HeldIs t offset word HeldCase.May
+  pub held-none : r ≡ OneCase.None → HeldIs t offset word HeldCase.May
   unfolding heldOf mayHold
   held-none e =
       record {
@@ -103,7 +104,7 @@ module _ (t : List ℕ) {at size : ℕ} (n : Named t at size) (offset : ℕ) (wo
         fair = tt;
       }
 
-  module _ {from len : ℕ} (e : r ≡ FilterCase.Handle from len) where
+  module _ {from len : ℕ} (e : r ≡ OneCase.Handle from len) where
     abbrev h : Handle
     h = record { offset = from; size = len }
 

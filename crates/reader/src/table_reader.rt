@@ -20,7 +20,6 @@ use block_reader::block::Which;
 use codec::blockhandle::OneHandle;
 use table_block::footer;
 use table_block::footer::FooterRead;
-use table_block::table_block::FilterRead;
 
 // Where an entry stands: where its index entry starts in the index block, and where it starts in its data block.
 pub struct Place {
@@ -90,7 +89,7 @@ fn by_handle(len: usize, start: usize, value: &[u8]) -> Located
     ensures { λ r. ⌜ r ≡ byHandle len start (oneHandle (now (value .entry))) ⌝ }
 {
     match codec::blockhandle::one_handle(value) {
-        OneHandle::Bad => Located::Refused(10),
+        OneHandle::None => Located::Refused(10),
         OneHandle::Handle { offset, size } => {
             if footer::placed(len, offset, size) {
                 Located::Block {
@@ -390,8 +389,8 @@ fn may_hold(table: &[u8], meta_at: usize, meta_size: usize, offset: usize, word:
     ensures { λ r. ⌜ HeldIs (now (table .entry)) offset (now (word .entry)) r ⌝ }
 {
     match table_block::table_block::bloom_handle(part_of(table, meta_at, meta_size)) {
-        FilterRead::None => Held::May,
-        FilterRead::Handle { offset: from, size } => {
+        OneHandle::None => Held::May,
+        OneHandle::Handle { offset: from, size } => {
             if footer::placed(table.len(), from, size) {} else {
                 return Held::Refused(8);
             }

@@ -4,39 +4,25 @@ use mathlib.Core.Path.{_≡_, refl}
 use mathlib.Core.Bool.{true, false}
 use mathlib.Core.List.{List, [], _∷_}
 use mathlib.Core.Option.{Option}
+use Rattle.codec.specs.declared.blockhandle.OneHandle.{OneHandle}
 use Rattle.codec.specs.declared.blockhandle.OneHandle.the-variants as OneCase
 use Rattle.codec.specs.Answers.{oneHandleAnswer}
 use Rattle.codec.specs.Bytes.{sameBytes}
 use Rattle.codec.specs.Varint.{Handle, oneHandle}
-use Rattle.codec.proofs.VarintCode.{one-said}
 use Rattle.block_reader.specs.declared.block.RowsRead.the-variants as RowsCase
 use Rattle.blocks.specs.Block.{Entry, pairsOf}
 use Rattle.blocks.specs.Formed.{bloomName}
 use Rattle.block_reader.specs.Steps.{rowsOf, rowsAnswer}
 use Rattle.block_reader.proofs.SeekLaws.{never-read}
-use Rattle.table_block.specs.declared.table_block.FilterRead.{FilterRead}
-use Rattle.table_block.specs.declared.table_block.FilterRead.the-variants as FilterCase
-use Rattle.table_block.specs.Answers.{bloomAnswer, BloomRead}
+use Rattle.table_block.specs.Answers.{BloomRead}
 use Rattle.table.specs.Table.{bloomHandle}
 
--- ---- a value
-
-pub value-none : (s : List ℕ) → oneHandleAnswer (oneHandle s) ≡ OneCase.Bad → FilterCase.None ≡ bloomAnswer (oneHandle s)
-unfolding bloomAnswer
-value-none s e = rw (one-said (oneHandle s) e)
-
-pub value-some : (s : List ℕ) {a b : ℕ} → oneHandleAnswer (oneHandle s) ≡ OneCase.Handle a b → FilterCase.Handle a b ≡ bloomAnswer (oneHandle s)
-unfolding bloomAnswer
-value-some s e = rw (one-said (oneHandle s) e)
-
--- ---- the entries
-
--- what is read of them
+-- what is read of the entries
 abbrev pub named : List Entry → Option Handle
 named es = bloomHandle (pairsOf es)
 
-pub bloom-end : FilterCase.None ≡ bloomAnswer (named [])
-unfolding bloomHandle bloomAnswer
+pub bloom-end : OneCase.None ≡ oneHandleAnswer (named [])
+unfolding bloomHandle oneHandleAnswer
 bloom-end = refl
 
 module _ (e : Entry) (rest : List Entry) where
@@ -49,5 +35,5 @@ module _ (e : Entry) (rest : List Entry) where
   bloom-past h = rw (h, bloomHandle)
 
 -- without a layout nothing can be read
-pub bloom-bad : (s : List ℕ) (r : FilterRead) → rowsAnswer (rowsOf s) ≡ RowsCase.Bad → BloomRead s r
+pub bloom-bad : (s : List ℕ) (r : OneHandle) → rowsAnswer (rowsOf s) ≡ RowsCase.Bad → BloomRead s r
 bloom-bad s r e = record { answer = λ es read. absurd (never-read s e read) }

@@ -56,7 +56,7 @@ fn nowhere() -> Part {
 
 fn handle(value: &[u8]) -> Part {
     match blockhandle::one_handle(value) {
-        OneHandle::Bad => nowhere(),
+        OneHandle::None => nowhere(),
         OneHandle::Handle { offset, size } => Part { at: offset, size },
     }
 }

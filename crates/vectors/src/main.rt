@@ -180,7 +180,7 @@ fn handle(s: &[u8]) {
     }
     match codec::blockhandle::one_handle(s) {
         OneHandle::Handle { offset: _, size: _ } => say(b", and nothing more\n"),
-        OneHandle::Bad => say(b", not alone\n"),
+        OneHandle::None => say(b", not alone\n"),
     }
 }
 

@@ -5,13 +5,13 @@ use mathlib.Core.List.{List}
 use native.Mathlib.Omega.{arith}
 use lib.ListN.{length, take}
 use lib.Seq.{length-take-le}
+use Rattle.codec.specs.Answers.{oneHandleAnswer}
 use Rattle.codec.specs.Bytes.{sameBytes}
 use Rattle.codec.specs.Varint.{oneHandle}
 use Rattle.blocks.specs.Formed.{bloomName}
 use Rattle.block_reader.proofs.EntryLaws.{Taken}
 use Rattle.block_reader.proofs.RestLaws.{rest-bad, rest-taken, value-lent}
 use Rattle.block_reader.proofs.WalkLaws.{Scanning, Same, scan-start, scan-bad, scan-end, scan-more, scan-hit}
-use Rattle.table_block.specs.Answers.{bloomAnswer}
 use Rattle.table_block.proofs.BloomLaws.{named, bloom-end, bloom-here, bloom-past}
 use borrow.Author.Needs.{needs}
 use Rattle.table_block.proofs.table_block.bloom_in.Statement.{statement}
@@ -99,24 +99,24 @@ slice-aggregate-is-bloom c = let k = c .before in sym (length-take-le (n k) (buf
 is-bloom-requires : tie.Need-is-bloom-requires Inv-loop μ-loop
 is-bloom-requires c κs = search needs
 
-sub-handle-in : tie.Need-sub-handle-in Inv-loop μ-loop
-sub-handle-in c = omega arith
+sub-one-handle : tie.Need-sub-one-handle Inv-loop μ-loop
+sub-one-handle c = omega arith
 
-part-handle-in-start : tie.Need-part-handle-in-start Inv-loop μ-loop
-part-handle-in-start c = omega (arith, entry (c .before .before .before) .step .within)
+part-one-handle-start : tie.Need-part-one-handle-start Inv-loop μ-loop
+part-one-handle-start c = omega (arith, entry (c .before .before .before) .step .within)
 
-part-handle-in-end : tie.Need-part-handle-in-end Inv-loop μ-loop
-part-handle-in-end c = omega (arith, entry (c .before .before .before) .step .within)
+part-one-handle-end : tie.Need-part-one-handle-end Inv-loop μ-loop
+part-one-handle-end c = omega (arith, entry (c .before .before .before) .step .within)
 
-handle-in-requires : tie.Need-handle-in-requires Inv-loop μ-loop
-handle-in-requires c κs = search needs
+one-handle-requires : tie.Need-one-handle-requires Inv-loop μ-loop
+one-handle-requires c κs = search needs
 
 returns-2 : tie.Need-returns-2 Inv-loop μ-loop
 returns-2 c =
     let k = c .before .before .before .before .before in
     let t = entry k in
-    scan-hit (lp k .loop .inv) t (λ es. c .handle-in .result ≡ bloomAnswer (named es)) (λ es rest same.
-    c .handle-in .ensures ∙ ap bloomAnswer (ap oneHandle (value-lent t) ∙ sym (same ∙ bloom-here (t .step .here) rest (name k ∙ sym (c .before .before .before .is-bloom .ensures) ∙ c .before .before .if1 .taken))))
+    scan-hit (lp k .loop .inv) t (λ es. c .one-handle .result ≡ oneHandleAnswer (named es)) (λ es rest same.
+    c .one-handle .ensures ∙ ap oneHandleAnswer (ap oneHandle (value-lent t) ∙ sym (same ∙ bloom-here (t .step .here) rest (name k ∙ sym (c .before .before .before .is-bloom .ensures) ∙ c .before .before .if1 .taken))))
 
 loop-less : tie.Need-loop-less Inv-loop μ-loop
 loop-less c = omega (arith, entry (c .before .before .before) .step .up)
@@ -128,7 +128,7 @@ loop-again c =
     scan-more (lp k .loop .inv) t (Same named) (λ es rest same. same ∙ bloom-past (t .step .here) rest (name k ∙ sym (c .before .is-bloom .ensures) ∙ c .if1 .left))
 
 returns-3 : tie.Need-returns-3 Inv-loop μ-loop
-returns-3 c = λ es read. bloom-end ∙ ap bloomAnswer (sym (scan-end (c .before .loop .inv) (c .loop-test .left) es read))
+returns-3 c = λ es read. bloom-end ∙ ap oneHandleAnswer (sym (scan-end (c .before .loop .inv) (c .loop-test .left) es read))
 
 pub bloom-in-spec : {M : Type 1} → statement M
 bloom-in-spec =
@@ -150,10 +150,10 @@ bloom-in-spec =
     array-share-prefix-buf
     slice-aggregate-is-bloom
     is-bloom-requires
-    sub-handle-in
-    part-handle-in-start
-    part-handle-in-end
-    handle-in-requires
+    sub-one-handle
+    part-one-handle-start
+    part-one-handle-end
+    one-handle-requires
     returns-2
     loop-less
     loop-again
