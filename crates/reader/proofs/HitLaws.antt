@@ -1,5 +1,5 @@
 -- What is found in one block, as an answer about the table.
-use Prim.Native.Nat.{ℕ, _+_, _≤_, _<_, _^_}
+use Prim.Native.Nat.{ℕ, _+_, _-_, _≤_, _<_, _^_}
 use mathlib.Core.Path.{_≡_, refl, sym, _∙_, ap}
 use mathlib.Core.List.{List, [], _∷_, head?, List·Memᴰ, List·Memᴰ·head, List·Memᴰ·tail}
 use mathlib.Core.Bool.{Bool, true}
@@ -17,7 +17,6 @@ use Rattle.codec.proofs.Lists.{All, Pairs, all-mem, first-yes, first-no}
 use Rattle.codec.proofs.MaybeLaws.{getting, giving}
 use Rattle.codec.proofs.Prelude.{test, and-i, true-is, false-is}
 use Rattle.codec.proofs.PutLaws.{put-start}
-use Rattle.keys.specs.Order.{Point}
 use Rattle.block_reader.specs.declared.block.Found.{Found}
 use Rattle.block_reader.specs.declared.block.Found.the-variants as FoundCase
 use Rattle.block_reader.specs.declared.block.Which.{Which}
@@ -30,9 +29,11 @@ use Rattle.table.specs.Table.{endsBefore, contents}
 use Rattle.table.specs.Reads.{Answer, refused, nothing, found, listed}
 use Rattle.table.proofs.PlaceLaws.{value-stands}
 use Rattle.table.proofs.StandLaws.{all-entries}
+use Rattle.reader.specs.declared.table_reader.Ask.{Ask}
+use Rattle.reader.specs.declared.table_reader.Ask.the-variants as AskCase
 use Rattle.reader.specs.declared.table_reader.Sought.{Sought}
 use Rattle.reader.specs.Answers.{entryOf, soughtOf}
-use Rattle.reader.specs.Parts.{Inside, Adds, hitOf, sayAt, Says, Tells}
+use Rattle.reader.specs.Parts.{asked, Inside, hitOf, sayAt, Says, Tells}
 use Rattle.reader.proofs.PassedLaws.{placed-within}
 
 -- ---- what is said of entries is of one of them
@@ -51,24 +52,16 @@ first-mem f (y ∷ ys) x e =
     (λ t. List·Memᴰ·head (some-in (sym e ∙ first-yes f y ys (true-is t))))
     (λ t. List·Memᴰ·tail (first-mem f ys x (sym (first-no f y ys (false-is t)) ∙ e)))
 
-pub picks-seek : (p : Point) → Picks (seekIn p)
-unfolding seekIn
-picks-seek p es e h = first-mem (reaches p) es e (some-in h)
-
 head-mem : {A : Type 0} (ys : List A) {x : A} → head? ys ≡ some x → List·Memᴰ x ys
 head-mem [] h = absurd (Option·none-ne-some _ h)
 head-mem (y ∷ ys) h = List·Memᴰ·head (some-in (sym h))
-
-pub picks-first : Picks firstIn
-unfolding firstIn
-picks-first es e h = head-mem es (some-in h)
 
 picked : (which : Which) (x : Entry) (xs : List Entry) {e : Entry} → pick which x xs ≡ some e → List·Memᴰ e (x ∷ xs)
 unfolding pick
 picked WhichCase.Here x xs h = List·Memᴰ·head (some-in (sym h))
 picked WhichCase.After x xs h = List·Memᴰ·tail (head-mem xs h)
 
-pub picks-place : (which : Which) (at : ℕ) → Picks (placeIn which at)
+picks-place : (which : Which) (at : ℕ) → Picks (placeIn which at)
 unfolding placeIn
 picks-place which at [] e h = absurd (Option·none-ne-some (some e) h)
 picks-place which at (x ∷ xs) e h =
@@ -76,16 +69,16 @@ picks-place which at (x ∷ xs) e h =
     (λ t. picked which x xs (some-in (rw (t, placeIn) at h)))
     (λ t. List·Memᴰ·tail (picks-place which at xs e (rw (t, placeIn) at h)))
 
--- an order that a search asks for, which entries in order have
-abbrev pub Asks : (List Entry → Bool) → Type 0
-Asks ordered = (es : List Entry) → inOrder es ≡ true → ordered es ≡ true
+pub picks-asked : (ask : Ask) (word : List ℕ) → Picks (asked ask word)
+unfolding firstIn seekIn
+picks-asked AskCase.First word es e h = head-mem es (some-in h)
+picks-asked (AskCase.Place at which) word es e h = picks-place which at es e h
+picks-asked (AskCase.Target edition) word es e h = first-mem (reaches (record { word = word; edition = edition })) es e (some-in h)
 
-pub asks-order : Asks inOrder
-asks-order es e = e
-
-pub asks-none : Asks anyOrder
+-- what is found in any order is found in order too
+pub said-in-order : {s : List ℕ} {says : List Entry → Option (Option Entry)} {k : List ℕ} {f : Found} {k′ : List ℕ} → Said s says anyOrder k f k′ → Said s says inOrder k f k′
 unfolding anyOrder
-asks-none es e = refl
+said-in-order d = record { answer = λ es read order. d .answer es read refl; buffer = λ es read order. d .buffer es read refl; inside = d .inside }
 
 -- ---- the answer
 
@@ -99,8 +92,8 @@ answerOf t index offset FoundCase.Bad b = refused 10
 
 module _ (t : List ℕ) (h : Handle) (index : ℕ) (placed : endsBefore (length t) (h .offset) (h .size) ≡ true) where
   -- its numbers are those that the code gives, and its value lies in the table
-  hit-tells : {says : List Entry → Option (Option Entry)} {ordered : List Entry → Bool} {k : List ℕ} {f : Found} {k′ : List ℕ}
-      → Said (contents t h) says ordered k f k′ → length k′ ≡ 1032 → Tells soughtOf t (λ a. a ≡ answerOf t index (h .offset) f k′) (hitOf index (h .offset) f) k′
+  hit-tells : {says : List Entry → Option (Option Entry)} {k : List ℕ} {f : Found} {k′ : List ℕ}
+      → Said (contents t h) says inOrder k f k′ → length k′ ≡ 1032 → Tells soughtOf t (λ a. a ≡ answerOf t index (h .offset) f k′) (hitOf index (h .offset) f) k′
   unfolding contents answerOf hitOf soughtOf entryOf listed
   hit-tells {k = k} {f = f} {k′ = k′} s long = go f (s .inside)
     where
@@ -144,11 +137,11 @@ pub room : (k : List ℕ) (x : Entry) → length k ≡ 1032 → T (leb (length (
 room k x long t = le-leb (length (x .key)) (length k) (omega (arith, leb→le (length (x .key)) 1032 t))
 
 module _ (t : List ℕ) (h : Handle) (index : ℕ) where
-  hit-is : {says : List Entry → Option (Option Entry)} {ordered : List Entry → Bool} {k : List ℕ} {f : Found} {k′ : List ℕ} → Picks says
-      → Said (contents t h) says ordered k f k′ → length k ≡ 1032 → (es : List Entry) → readable (contents t h) ≡ some es → ordered es ≡ true
+  hit-is : {says : List Entry → Option (Option Entry)} {k : List ℕ} {f : Found} {k′ : List ℕ} → Picks says
+      → Said (contents t h) says inOrder k f k′ → length k ≡ 1032 → (es : List Entry) → readable (contents t h) ≡ some es → inOrder es ≡ true
       → answerOf t index (h .offset) f k′ ≡ sayAt index (h .offset) (says es)
   unfolding answerOf sayAt foundAnswer bufferLeft keyLeft
-  hit-is {says} {ordered} {k} {f} {k′} picks s long es read order =
+  hit-is {says} {k} {f} {k′} picks s long es read order =
       rw (s .answer es read order, s .buffer es read order) (go (says es) refl)
     where
       go : (o : Option (Option Entry)) → says es ≡ o → answerOf t index (h .offset) (foundAnswer (length k) o) (bufferLeft k o) ≡ sayAt index (h .offset) o
@@ -160,28 +153,24 @@ module _ (t : List ℕ) (h : Handle) (index : ℕ) where
           rw (room k x long (all-mem (r .short) m), foundAnswer, put-start k (x .key) (length (x .key)) refl (omega (arith, long, leb→le (length (x .key)) 1032 (all-mem (r .short) m))), ← value-stands t h x (all-mem (r .values) m)) refl
 
 -- what was found in the block, of a kind of search on it
-pub hit-says : (t : List ℕ) (index offset size : ℕ) {says : List Entry → Option (Option Entry)} {ordered : List Entry → Bool} {s k : List ℕ} {f : Found} {k′ : List ℕ} → Picks says → Asks ordered
-    → endsBefore (length t) offset size ≡ true → s ≡ part t offset size → Said s says ordered k f k′ → length k ≡ 1032 → length k′ ≡ 1032 → {r : Sought} → r ≡ hitOf index offset f
+pub hit-says : (t : List ℕ) (index offset size : ℕ) {says : List Entry → Option (Option Entry)} {s k : List ℕ} {f : Found} {k′ : List ℕ} → Picks says
+    → endsBefore (length t) offset size ≡ true → s ≡ part t offset size → Said s says inOrder k f k′ → length k ≡ 1032 → length k′ ≡ 1032 → {r : Sought} → r ≡ hitOf index offset f
     → Tells soughtOf t (Says t index offset size says) r k′
 unfolding contents
-hit-says t index offset size picks asks placed s-is said long long′ is =
+hit-says t index offset size picks placed s-is said long long′ is =
     let h : Handle = record { offset = offset; size = size } in
     let s = rw s-is at said in
     let w = hit-tells t h index placed s long′ in
-    record { answer = w .answer; shown = is ∙ w .shown; holds = w .holds; inside = w .inside; is = λ es read order. w .is ∙ hit-is t h index picks s long es read (asks es order) }
+    record { answer = w .answer; shown = is ∙ w .shown; holds = w .holds; inside = w .inside; is = λ es read order. w .is ∙ hit-is t h index picks s long es read order }
 
 -- ---- what the parts of a read ask for
 
-module _ {s : List ℕ} {says : List Entry → Option (Option Entry)} {ordered : List Entry → Bool} {k : List ℕ} {k′ : List ℕ} where
-  pub said-inside : (f : Found) → Said s says ordered k f k′ → Inside (length s) f
-  said-inside (FoundCase.Entry start n at v) w = w .inside .0
-  said-inside FoundCase.None w = tt
-  said-inside FoundCase.NoPlace w = tt
-  said-inside FoundCase.Bad w = tt
+pub said-inside : {s : List ℕ} {says : List Entry → Option (Option Entry)} {k k′ : List ℕ} {n : ℕ} (f : Found) → Said s says inOrder k f k′ → length s ≤ n → Inside n f
+said-inside (FoundCase.Entry start m at v) w h = omega (arith, w .inside .0)
+said-inside FoundCase.None w h = tt
+said-inside FoundCase.NoPlace w h = tt
+said-inside FoundCase.Bad w h = tt
 
-  pub said-adds : (t : List ℕ) (offset size : ℕ) (f : Found) → Said s says ordered k f k′ → s ≡ part t offset size → endsBefore (length t) offset size ≡ true → length t < 2 ^ 64 → Adds offset f
-  said-adds t offset size (FoundCase.Entry start n at v) w e placed big =
-      omega (arith, w .inside .0, placed-within (length t) offset size placed, ap length e, part-most t offset size)
-  said-adds t offset size FoundCase.None w e placed big = tt
-  said-adds t offset size FoundCase.NoPlace w e placed big = tt
-  said-adds t offset size FoundCase.Bad w e placed big = tt
+-- a place in a block is one in the table, of 64 bits
+pub block-fits : (t : List ℕ) (offset size : ℕ) {s : List ℕ} → s ≡ part t offset size → endsBefore (length t) offset size ≡ true → length t < 2 ^ 64 → length s ≤ 2 ^ 64 - 1 - offset
+block-fits t offset size e placed big = omega (arith, placed-within (length t) offset size placed, ap length e, part-most t offset size)

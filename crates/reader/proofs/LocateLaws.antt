@@ -15,6 +15,7 @@ use Rattle.codec.proofs.Prelude.{test, apart}
 use Rattle.block_reader.specs.declared.block.Found.{Found}
 use Rattle.block_reader.specs.declared.block.Found.the-variants as FoundCase
 use Rattle.blocks.specs.Block.{Entry}
+use Rattle.blocks.specs.Search.{inOrder}
 use Rattle.block_reader.specs.Said.{foundAnswer, Said}
 use Rattle.table.specs.Table.{endsBefore, contents, handleOf, entriesAt}
 use Rattle.table.specs.Promise.{Passed}
@@ -26,7 +27,7 @@ use Rattle.reader.specs.Answers.{soughtOf}
 use Rattle.reader.specs.Parts.{Indexed, byHandle, locatedOf, blockAt, Sound, Sees, sayAt, Says, Tells}
 use Rattle.reader.proofs.AnswerLaws.{tells-refused}
 use Rattle.reader.proofs.PassedLaws.{BlockReads, Opens, passed-opens}
-use Rattle.reader.proofs.HitLaws.{Picks, Asks, readable-tells, room}
+use Rattle.reader.proofs.HitLaws.{Picks, readable-tells, room}
 
 -- ---- as code finds it
 
@@ -60,11 +61,11 @@ located-sound len s FoundCase.Bad = λ t. tt
 -- ---- of a passed table
 
 module _ (t : List ℕ) {h : Handle} (o : Opens t h) where
-  located-is : {says : List Entry → Option (Option Entry)} {ordered : List Entry → Bool} {k : List ℕ} {f : Found} {k′ : List ℕ} → Picks says → Asks ordered
-      → Said (contents t h) says ordered k f k′ → length k ≡ 1032
+  located-is : {says : List Entry → Option (Option Entry)} {k : List ℕ} {f : Found} {k′ : List ℕ} → Picks says
+      → Said (contents t h) says inOrder k f k′ → length k ≡ 1032
       → locatedOf (length t) (contents t h) f ≡ blockAt (says (o .table .index))
   unfolding locatedOf foundAnswer byHandle blockAt
-  located-is {says} {ordered} {k} picks asks s long = rw (s .answer ixs (o .reads) (asks ixs (o .order))) (go (says ixs) refl)
+  located-is {says} {k} picks s long = rw (s .answer ixs (o .reads) (o .order)) (go (says ixs) refl)
     where
       ixs : List Entry
       ixs = o .table .index
@@ -94,14 +95,14 @@ module _ (t : List ℕ) {h : Handle} (o : Opens t h) where
 
 -- ---- a reading of the index
 
-pub index-sees : (t : List ℕ) {offset size : ℕ} → Indexed t offset size → {says : List Entry → Option (Option Entry)} {ordered : List Entry → Bool} {s k : List ℕ} {f : Found} {k′ : List ℕ} {r : Located}
-    → Picks says → Asks ordered → s ≡ part t offset size → Said s says ordered k f k′ → length k ≡ 1032 → r ≡ locatedOf (length t) s f → Sees t offset size says r
+pub index-sees : (t : List ℕ) {offset size : ℕ} → Indexed t offset size → {says : List Entry → Option (Option Entry)} {s k : List ℕ} {f : Found} {k′ : List ℕ} {r : Located}
+    → Picks says → s ≡ part t offset size → Said s says inOrder k f k′ → length k ≡ 1032 → r ≡ locatedOf (length t) s f → Sees t offset size says r
 unfolding contents
-index-sees t i {says} {ordered} {s} {k} {f} picks asks e said long is =
+index-sees t i {says} {s} {k} {f} picks e said long is =
     record {
       passed = λ p.
           let o = passed-opens t i p in
-          is ∙ ap (λ (x : List ℕ). locatedOf (length t) x f) e ∙ located-is t o picks asks (rw e at said) long ∙ ap (λ (l : List Entry). blockAt (says l)) (sym (o .same));
+          is ∙ ap (λ (x : List ℕ). locatedOf (length t) x f) e ∙ located-is t o picks (rw e at said) long ∙ ap (λ (l : List Entry). blockAt (says l)) (sym (o .same));
       sound = rw is (located-sound (length t) s f);
     }
 

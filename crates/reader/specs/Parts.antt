@@ -1,6 +1,6 @@
 -- What the parts of a read answer: where the index says a block is, what is found in one block, and what a table tells with a key buffer of
 -- the call's own.
-use Prim.Native.Nat.{ℕ, _+_, _≤_, _<_, _^_}
+use Prim.Native.Nat.{ℕ, _+_, _≤_}
 use mathlib.Core.Path.{_≡_}
 use mathlib.Core.Bool.{Bool, true, false}
 use mathlib.Core.List.{List, _∷_, _++_, head?}
@@ -11,19 +11,28 @@ use Rattle.codec.specs.Bytes.{part, sameBytes}
 use Rattle.codec.specs.Varint.{Handle, oneHandle}
 use Rattle.keys.specs.Order.{userOf, kindOf}
 use Rattle.blocks.specs.Block.{Entry}
-use Rattle.blocks.specs.Search.{readable, inOrder}
+use Rattle.blocks.specs.Search.{readable, seekIn, firstIn, inOrder}
 use Rattle.block_reader.specs.declared.block.Found as BlockFound
 use Rattle.block_reader.specs.declared.block.Found.the-variants as FoundCase
+use Rattle.block_reader.specs.Said.{placeIn}
 use Rattle.table.specs.Checked.{pass}
 use Rattle.table.specs.Table.{Footer, footer, endsBefore, handleOf, mayHold, Opened, opened, entriesAt, readBlocks}
 use Rattle.table.specs.Promise.{Passed}
 use Rattle.table.specs.Reads.{Answer, refused, nothing, found, deleted, foundOr, byKind, listed}
+use Rattle.reader.specs.declared.table_reader.Ask.{Ask}
+use Rattle.reader.specs.declared.table_reader.Ask.the-variants as AskCase
 use Rattle.reader.specs.declared.table_reader.Held.{Held}
 use Rattle.reader.specs.declared.table_reader.Held.the-variants as HeldCase
 use Rattle.reader.specs.declared.table_reader.Located.{Located}
 use Rattle.reader.specs.declared.table_reader.Located.the-variants as LocatedCase
 use Rattle.reader.specs.declared.table_reader.Sought.{Sought}
 use Rattle.reader.specs.declared.table_reader.Sought.the-variants as SoughtCase
+
+-- what is asked of a block's entries, with the word of a target
+abbrev pub asked : Ask → List ℕ → List Entry → Option (Option Entry)
+asked AskCase.First word = firstIn
+asked (AskCase.Place at which) word = placeIn which at
+asked (AskCase.Target edition) word = seekIn (record { word = word; edition = edition })
 
 -- ---- the index
 
@@ -89,13 +98,6 @@ sayAt index offset (some (some e)) =
 -- so of the block at a handle, where it can be read and its entries are in order
 abbrev pub Says : List ℕ → ℕ → ℕ → ℕ → (List Entry → Option (Option Entry)) → Answer → Type 0
 Says t index offset size says a = (es : List Entry) → readable (part t offset size) ≡ some es → inOrder es ≡ true → a ≡ sayAt index offset (says es)
-
--- where a value starts has 64 bits
-abbrev pub Adds : ℕ → BlockFound.Found → Type 0
-Adds offset (FoundCase.Entry start n at v) = offset + at < 2 ^ 64
-Adds offset FoundCase.None = Unit {0}
-Adds offset FoundCase.NoPlace = Unit {0}
-Adds offset FoundCase.Bad = Unit {0}
 
 -- what was found in the block at an offset, as an entry of the table
 unfoldable pub hitOf : ℕ → ℕ → BlockFound.Found → Sought

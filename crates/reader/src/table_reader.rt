@@ -2,20 +2,18 @@
 // its plain reading says; on any other the calls end, and what they give lies in the table.
 ghost use mathlib.Core.Path.{_≡_};
 ghost use mathlib.Core.Bool.{true};
-ghost use mathlib.Core.List.{List, [], _∷_, _++_, head?};
-ghost use Prim.Native.Nat.{ℕ, _+_, _≤_, _<_, _^_};
+ghost use Prim.Native.Nat.{_-_, _≤_, _^_};
 ghost use lib.Dec.{T};
 ghost use lib.ListN.{length};
 ghost use Rattle.codec.specs.Bytes.{part};
 ghost use Rattle.codec.specs.Varint.{oneHandle};
 ghost use Rattle.blocks.specs.Block.{Entry};
-ghost use Rattle.blocks.specs.Search.{seekIn};
-ghost use Rattle.block_reader.specs.Said.{placeIn};
-ghost use Rattle.table.specs.Table.{endsBefore, entriesAt, readBlocks};
-ghost use Rattle.table.specs.Promise.{Passed};
-ghost use Rattle.table.specs.Reads.{Answer, pointFits, listed, bufferAfter, foundOr, seekSays, lookupSays, stepSays};
+ghost use Rattle.blocks.specs.Search.{inOrder};
+ghost use Rattle.block_reader.specs.Said.{Said};
+ghost use Rattle.table.specs.Table.{endsBefore};
+ghost use Rattle.table.specs.Reads.{Answer, pointFits, listed, bufferAfter, seekSays, lookupSays, stepSays};
 ghost use Rattle.reader.specs.Answers.{soughtOf, lookedOf, Seeks, Looks, Steps};
-ghost use Rattle.reader.specs.Parts.{Indexed, Inside, locatedOf, byHandle, Adds, hitOf, Holds, Tells, Sees, Says, IsLater, OrLater, Is, Short, Named, HeldIs, ofWord, Kinded, IsKinded};
+ghost use Rattle.reader.specs.Parts.{asked, Indexed, Inside, locatedOf, byHandle, hitOf, Holds, Tells, Sees, Says, IsLater, OrLater, Is, Short, Named, HeldIs, ofWord, Kinded, IsKinded};
 use block_reader::block::Which;
 use codec::blockhandle::OneHandle;
 use table_block::footer;
@@ -67,6 +65,14 @@ enum Located {
     None,
     NoPlace,
     Refused(u32),
+}
+
+// What is asked of a block: its first entry, the entry at a place or the one after it, or the first that is not below a target,
+// given by its edition. The word of a target is lent beside it.
+enum Ask {
+    First,
+    Place(usize, Which),
+    Target(u64),
 }
 
 // A part of a table, what of it lies there.
@@ -127,7 +133,7 @@ fn locate(len: usize, index: &[u8], found: block_reader::block::Found) -> Locate
 
 // What was found in the data block at an offset, whose index entry starts at a place, as an entry of the table.
 fn hit(index: usize, offset: usize, found: block_reader::block::Found) -> Sought
-    requires { ⌜ Adds offset found ⌝ }
+    requires { ⌜ Inside (2 ^ 64 - 1 - offset) found ⌝ }
     ensures { λ r. ⌜ r ≡ hitOf index offset found ⌝ }
 {
     match found {
@@ -151,24 +157,48 @@ fn hit(index: usize, offset: usize, found: block_reader::block::Found) -> Sought
     }
 }
 
-// The block of the index entry that starts at a place, or of the one after it.
-fn place_index(
+// What is asked for, in the bytes of one block.
+fn find_in(block: &[u8], ask: Ask, word: &[u8], buf: &mut [u8]) -> block_reader::block::Found
+    ensures { λ r. ⌜ Said (now (block .entry)) (asked ask (now (word .entry))) inOrder (now (buf .entry)) r (now (buf .exit)) ⌝ }
+{
+    match ask {
+        Ask::First => block_reader::block::first(block, buf),
+        Ask::Place(at, which) => block_reader::block::by_place(block, at, which, buf),
+        Ask::Target(edition) => block_reader::block::seek(block, word, edition, buf),
+    }
+}
+
+// The block of the index entry that is asked for.
+fn find_index(
     table: &[u8],
     index_at: usize,
     index_size: usize,
-    at: usize,
-    which: Which,
+    ask: Ask,
+    word: &[u8],
     buf: &mut [u8],
 ) -> Located
     requires { ⌜ Indexed (now table) «index_at» «index_size» × (length (now buf) ≡ 1032) ⌝ }
-    ensures { λ r. ⌜ Sees (now (table .entry)) «index_at» «index_size» (placeIn which at) r ⌝ }
+    ensures { λ r. ⌜ Sees (now (table .entry)) «index_at» «index_size» (asked ask (now (word .entry))) r ⌝ }
 {
     let index = part_of(table, index_at, index_size);
-    locate(
-        table.len(),
-        index,
-        block_reader::block::by_place(index, at, which, buf),
-    )
+    locate(table.len(), index, find_in(index, ask, word, buf))
+}
+
+// What is asked for, in one block of the table.
+fn find_block(
+    table: &[u8],
+    index: usize,
+    offset: usize,
+    size: usize,
+    ask: Ask,
+    word: &[u8],
+    buf: &mut [u8],
+) -> Sought
+    requires { ⌜ (endsBefore (length (now table)) offset size ≡ true) × (length (now buf) ≡ 1032) ⌝ }
+    ensures { λ r. ⌜ Tells soughtOf (now (table .entry)) (Says (now (table .entry)) index offset size (asked ask (now (word .entry)))) r (now (buf .exit)) ⌝ }
+{
+    let block = part_of(table, offset, size);
+    hit(index, offset, find_in(block, ask, word, buf))
 }
 
 // The first entry of the block after the one whose index entry starts at a place.
@@ -182,7 +212,8 @@ fn first_after(
     requires { ⌜ Indexed (now table) «index_at» «index_size» × (length (now buf) ≡ 1032) ⌝ }
     ensures { λ r. ⌜ Tells soughtOf (now (table .entry)) (IsLater (now (table .entry)) «index_at» «index_size» start) r (now (buf .exit)) ⌝ }
 {
-    match place_index(table, index_at, index_size, start, Which::After, buf) {
+    let after = Ask::Place(start, Which::After);
+    match find_index(table, index_at, index_size, after, b"", buf) {
         Located::Refused(n) => Sought::Refused(n),
         Located::None => Sought::None,
         Located::NoPlace => Sought::Refused(10),
@@ -190,11 +221,7 @@ fn first_after(
             start: next,
             offset,
             size,
-        } => hit(
-            next,
-            offset,
-            block_reader::block::first(part_of(table, offset, size), buf),
-        ),
+        } => find_block(table, next, offset, size, Ask::First, b"", buf),
     }
 }
 
@@ -217,46 +244,6 @@ fn or_later(
     }
 }
 
-// Where the index says that a target is.
-fn seek_index(
-    table: &[u8],
-    index_at: usize,
-    index_size: usize,
-    word: &[u8],
-    edition: u64,
-    buf: &mut [u8],
-) -> Located
-    requires { ⌜ Indexed (now table) «index_at» «index_size» × (length (now buf) ≡ 1032) ⌝ }
-    ensures { λ r. ⌜ Sees (now (table .entry)) «index_at» «index_size» (seekIn (record { word = now (word .entry); edition = edition })) r ⌝ }
-{
-    let index = part_of(table, index_at, index_size);
-    locate(
-        table.len(),
-        index,
-        block_reader::block::seek(index, word, edition, buf),
-    )
-}
-
-// The first entry of one block that is not below a target.
-fn seek_block(
-    table: &[u8],
-    index: usize,
-    offset: usize,
-    size: usize,
-    word: &[u8],
-    edition: u64,
-    buf: &mut [u8],
-) -> Sought
-    requires { ⌜ (endsBefore (length (now table)) offset size ≡ true) × (length (now buf) ≡ 1032) ⌝ }
-    ensures { λ r. ⌜ Tells soughtOf (now (table .entry)) (Says (now (table .entry)) index offset size (seekIn (record { word = now (word .entry); edition = edition }))) r (now (buf .exit)) ⌝ }
-{
-    hit(
-        index,
-        offset,
-        block_reader::block::seek(part_of(table, offset, size), word, edition, buf),
-    )
-}
-
 // The first entry that is not below a target: in the block that the index names, or the first of the block after.
 fn find(
     table: &[u8],
@@ -269,7 +256,7 @@ fn find(
     requires { ⌜ Indexed (now table) «index_at» «index_size» × (length (now buf) ≡ 1032) ⌝ }
     ensures { λ r. ⌜ Tells soughtOf (now (table .entry)) (Is (now (table .entry)) (seekSays (now (table .entry)) (record { word = now (word .entry); edition = edition }))) r (now (buf .exit)) ⌝ }
 {
-    match seek_index(table, index_at, index_size, word, edition, buf) {
+    match find_index(table, index_at, index_size, Ask::Target(edition), word, buf) {
         Located::Refused(n) => Sought::Refused(n),
         Located::None => Sought::None,
         Located::NoPlace => Sought::Refused(10),
@@ -278,7 +265,7 @@ fn find(
             offset,
             size,
         } => {
-            let here = seek_block(table, start, offset, size, word, edition, buf);
+            let here = find_block(table, start, offset, size, Ask::Target(edition), word, buf);
             or_later(here, table, index_at, index_size, start, buf)
         }
     }
@@ -289,7 +276,8 @@ fn follow(table: &[u8], index_at: usize, index_size: usize, place: Place, buf: &
     requires { ⌜ Indexed (now table) «index_at» «index_size» × (length (now buf) ≡ 1032) ⌝ }
     ensures { λ r. ⌜ Tells soughtOf (now (table .entry)) (Is (now (table .entry)) (stepSays (now (table .entry)) (place .index) (place .entry))) r (now (buf .exit)) ⌝ }
 {
-    match place_index(table, index_at, index_size, place.index, Which::Here, buf) {
+    let here = Ask::Place(place.index, Which::Here);
+    match find_index(table, index_at, index_size, here, b"", buf) {
         Located::Refused(n) => Sought::Refused(n),
         Located::None => Sought::Refused(14),
         Located::NoPlace => Sought::Refused(14),
@@ -298,13 +286,9 @@ fn follow(table: &[u8], index_at: usize, index_size: usize, place: Place, buf: &
             offset,
             size,
         } => {
-            let block = part_of(table, offset, size);
-            let here = hit(
-                start,
-                offset,
-                block_reader::block::by_place(block, place.entry, Which::After, buf),
-            );
-            or_later(here, table, index_at, index_size, start, buf)
+            let after = Ask::Place(place.entry, Which::After);
+            let next = find_block(table, start, offset, size, after, b"", buf);
+            or_later(next, table, index_at, index_size, start, buf)
         }
     }
 }
@@ -438,7 +422,7 @@ fn look(
     requires { ⌜ Named (now table) «meta_at» «meta_size» × Indexed (now table) «index_at» «index_size» × (length (now buf) ≡ 1032) ⌝ }
     ensures { λ r. ⌜ Tells soughtOf (now (table .entry)) (IsKinded (now (table .entry)) (lookupSays (now (table .entry)) (record { word = now (word .entry); edition = edition }))) r (now (buf .exit)) ⌝ }
 {
-    match seek_index(table, index_at, index_size, word, edition, buf) {
+    match find_index(table, index_at, index_size, Ask::Target(edition), word, buf) {
         Located::Refused(n) => Sought::Refused(n),
         Located::None => Sought::None,
         Located::NoPlace => Sought::Refused(10),
@@ -450,7 +434,7 @@ fn look(
             Held::Refused(n) => Sought::Refused(n),
             Held::Not => Sought::None,
             Held::May => {
-                let here = seek_block(table, start, offset, size, word, edition, buf);
+                let here = find_block(table, start, offset, size, Ask::Target(edition), word, buf);
                 of_word(here, word, buf)
             }
         },

@@ -7,11 +7,11 @@ use Rattle.reader.proofs.table_reader.find.Statement.{statement}
 use Rattle.reader.proofs.table_reader.find.Tie as tie
 
 -- what the index says
-abbrev start : tie.After-seek-index → tie.Start
+abbrev start : tie.After-find-index → tie.Start
 start c = c .before .before .before .before .before
 
-seek-index-requires : tie.Need-seek-index-requires
-seek-index-requires c κs = search needs
+find-index-requires : tie.Need-find-index-requires
+find-index-requires c κs = search needs
 
 enum-known-n : tie.Need-enum-known-n
 enum-known-n c = search needs
@@ -25,11 +25,11 @@ enum-told-2 c = search needs
 enum-known-start : tie.Need-enum-known-start
 enum-known-start c = search needs
 
-seek-block-requires : tie.Need-seek-block-requires
-seek-block-requires c κs =
+find-block-requires : tie.Need-find-block-requires
+find-block-requires c κs =
     let k = c .before .before in
     let l = k .before .before .before .before in
-    (sees-placed (l .seek-index .ensures) (k .start .given .1), l .seek-index .kept .1 .1 .1 .1 .1 .0 ∙ start l .pre .1)
+    (sees-placed (l .find-index .ensures) (k .start .given .1), l .find-index .kept .1 .1 .1 .1 .1 .0 ∙ start l .pre .1)
 
 or-later-requires : tie.Need-or-later-requires
 or-later-requires c κs = search needs
@@ -40,7 +40,7 @@ same-length c = search needs
 returns : tie.Need-returns
 returns c =
     let l = c .before .before .before .before .before in
-    sees-refused (l .seek-index .ensures) (c .before .n .given .1) (λ never q. absurd (never q))
+    sees-refused (l .find-index .ensures) (c .before .n .given .1) (λ never q. absurd (never q))
 
 same-length-2 : tie.Need-same-length-2
 same-length-2 c = search needs
@@ -48,7 +48,7 @@ same-length-2 c = search needs
 returns-2 : tie.Need-returns-2
 returns-2 c =
     let l = c .before .before .before .before in
-    find-none _ (start l .pre .0) _ (l .seek-index .ensures) (c .enum-told .given .1)
+    find-none _ (start l .pre .0) _ (l .find-index .ensures) (c .enum-told .given .1)
 
 same-length-3 : tie.Need-same-length-3
 same-length-3 c = search needs
@@ -56,7 +56,7 @@ same-length-3 c = search needs
 returns-3 : tie.Need-returns-3
 returns-3 c =
     let l = c .before .before .before .before in
-    seek-no-place _ (start l .pre .0) _ (l .seek-index .ensures) (c .enum-told2 .given .1) (λ never q. absurd (never q))
+    seek-no-place _ (start l .pre .0) _ (l .find-index .ensures) (c .enum-told2 .given .1) (λ never q. absurd (never q))
 
 same-length-4 : tie.Need-same-length-4
 same-length-4 c = search needs
@@ -65,19 +65,19 @@ returns-4 : tie.Need-returns-4
 returns-4 c =
     let k = c .before .before .before .before .before .before .before .before .before in
     let l = k .before .before .before .before in
-    let w = c .before .before .before .before .before .before .seek-block .ensures in
-    find-block _ (start l .pre .0) _ (l .seek-index .ensures) (k .start .given .1) w (c .before .before .or-later .ensures (w .answer) (w .shown) (w .holds) (w .inside))
+    let w = c .before .before .before .before .before .before .find-block .ensures in
+    find-block _ (start l .pre .0) _ (l .find-index .ensures) (k .start .given .1) w (c .before .before .or-later .ensures (w .answer) (w .shown) (w .holds) (w .inside))
 
 pub find-spec : {M : Type 1} → statement M
 find-spec =
     tie.close
     (tie.spec
-    seek-index-requires
+    find-index-requires
     enum-known-n
     enum-told
     enum-told-2
     enum-known-start
-    seek-block-requires
+    find-block-requires
     or-later-requires
     same-length
     returns

@@ -1,6 +1,5 @@
 -- `reader::table_reader::first_after` meets its contract.
-use native.Mathlib.Omega.{arith}
-use Rattle.reader.proofs.HitLaws.{picks-first, asks-none, said-adds, hit-says}
+use mathlib.Core.Path.{_∙_}
 use Rattle.reader.proofs.LocateLaws.{sees-placed, sees-refused}
 use Rattle.reader.proofs.LaterLaws.{later-no-place, later-none, later-first}
 use borrow.Author.Needs.{needs}
@@ -8,11 +7,14 @@ use Rattle.reader.proofs.table_reader.first_after.Statement.{statement}
 use Rattle.reader.proofs.table_reader.first_after.Tie as tie
 
 -- what the index says
-abbrev start : tie.After-place-index → tie.Start
-start c = c .before .before .before .before
+abbrev start : tie.After-find-index → tie.Start
+start c = c .before .before .before .before .before
 
-place-index-requires : tie.Need-place-index-requires
-place-index-requires c κs = search needs
+slice-aggregate-find-index : tie.Need-slice-aggregate-find-index
+slice-aggregate-find-index c = search needs
+
+find-index-requires : tie.Need-find-index-requires
+find-index-requires c κs = search needs
 
 enum-known-n : tie.Need-enum-known-n
 enum-known-n c = search needs
@@ -26,16 +28,14 @@ enum-told-2 c = search needs
 enum-known-next : tie.Need-enum-known-next
 enum-known-next c = search needs
 
-part-of-requires : tie.Need-part-of-requires
-part-of-requires c κs = search needs
+slice-aggregate-find-block : tie.Need-slice-aggregate-find-block
+slice-aggregate-find-block c = search needs
 
-first-requires : tie.Need-first-requires
-first-requires c κs = search needs
-
-hit-requires : tie.Need-hit-requires
-hit-requires c κs =
-    let k = c .before .before .before .before .before .before in
-    said-adds _ _ _ _ (c .before .before .first .ensures) (c .before .before .before .before .part-of .ensures) (sees-placed (k .before .before .before .before .place-index .ensures) (k .next .given .1)) (omega arith)
+find-block-requires : tie.Need-find-block-requires
+find-block-requires c κs =
+    let k = c .before .before .before in
+    let l = k .before .before .before .before in
+    (sees-placed (l .find-index .ensures) (k .next .given .1), l .find-index .kept .1 .1 .1 .1 .1 .0 ∙ start l .pre .1)
 
 same-length : tie.Need-same-length
 same-length c = search needs
@@ -43,7 +43,7 @@ same-length c = search needs
 returns : tie.Need-returns
 returns c =
     let l = c .before .before .before .before .before in
-    sees-refused (l .place-index .ensures) (c .before .n .given .1) (λ never q. absurd (never q))
+    sees-refused (l .find-index .ensures) (c .before .n .given .1) (λ never q. absurd (never q))
 
 same-length-2 : tie.Need-same-length-2
 same-length-2 c = search needs
@@ -51,7 +51,7 @@ same-length-2 c = search needs
 returns-2 : tie.Need-returns-2
 returns-2 c =
     let l = c .before .before .before .before in
-    later-none _ (start l .pre .0) _ (l .place-index .ensures) (c .enum-told .given .1)
+    later-none _ (start l .pre .0) _ (l .find-index .ensures) (c .enum-told .given .1)
 
 same-length-3 : tie.Need-same-length-3
 same-length-3 c = search needs
@@ -59,30 +59,29 @@ same-length-3 c = search needs
 returns-3 : tie.Need-returns-3
 returns-3 c =
     let l = c .before .before .before .before in
-    later-no-place _ (start l .pre .0) _ (l .place-index .ensures) (c .enum-told2 .given .1)
+    later-no-place _ (start l .pre .0) _ (l .find-index .ensures) (c .enum-told2 .given .1)
 
 same-length-4 : tie.Need-same-length-4
 same-length-4 c = search needs
 
 returns-4 : tie.Need-returns-4
 returns-4 c =
-    let k = c .before .before .before .before .before .before .before in
+    let k = c .before .before .before .before .before .before in
     let l = k .before .before .before .before in
-    later-first _ (start l .pre .0) _ (l .place-index .ensures) (k .next .given .1)
-    (hit-says _ _ _ _ picks-first asks-none (sees-placed (l .place-index .ensures) (k .next .given .1)) (c .before .before .before .before .before .part-of .ensures) (c .before .before .before .first .ensures) (omega arith) (omega arith) (c .hit .ensures))
+    later-first _ (start l .pre .0) _ (l .find-index .ensures) (k .next .given .1) (c .before .before .find-block .ensures)
 
 pub first-after-spec : {M : Type 1} → statement M
 first-after-spec =
     tie.close
     (tie.spec
-    place-index-requires
+    slice-aggregate-find-index
+    find-index-requires
     enum-known-n
     enum-told
     enum-told-2
     enum-known-next
-    part-of-requires
-    first-requires
-    hit-requires
+    slice-aggregate-find-block
+    find-block-requires
     same-length
     returns
     same-length-2

@@ -1,8 +1,8 @@
 -- `reader::table_reader::hit` meets its contract.
-use Prim.Native.Nat.{_+_, _<_, _^_}
+use Prim.Native.Nat.{_-_, _^_}
 use mathlib.Core.Path.{subst}
 use native.Mathlib.Omega.{arith}
-use Rattle.reader.specs.Parts.{Adds, hitOf}
+use Rattle.reader.specs.Parts.{Inside, hitOf}
 use borrow.Author.Needs.{needs}
 use Rattle.reader.proofs.table_reader.hit.Statement.{statement}
 use Rattle.reader.proofs.table_reader.hit.Tie as tie
@@ -21,8 +21,8 @@ enum-known-found c = search needs
 
 add-t10 : tie.Need-add-t10
 add-t10 c =
-    let h : c .before .before .before .args .offset + c .before .found .given .0 .1 .1 .0 < 2 ^ 64 = subst (Adds (c .before .before .before .args .offset)) (c .before .found .given .1) (c .before .before .before .pre) in
-    omega (arith, h)
+    let b = c .before .before .before in
+    omega (arith, b .good, subst (Inside (2 ^ 64 - 1 - b .args .offset)) (c .before .found .given .1) (b .pre))
 
 returns : tie.Need-returns
 unfolding hitOf
