@@ -28,10 +28,10 @@ use Rattle.table.proofs.FrameLaws.{framed-length}
 use Rattle.builder.specs.declared.table_builder.Builder.{Builder}
 use Rattle.builder.specs.declared.table_builder.FilterSizes.{FilterSizes}
 use Rattle.filters.specs.FilterCount.{FilterCount, countLast}
-use Rattle.table.specs.Counts.{finishedSize}
+use Rattle.table.specs.Counts.{metaSize, finishedSize}
 use Rattle.builder.specs.declared.table_builder.Lengths.{Lengths}
 use Rattle.builder.specs.State.{optionsOf, countsIn}
-use Rattle.builder.specs.Steps.{small, Small, Whole, filterCountIn, filtersIn, lastState, metaLen, lastFilters, endable, EndingIs}
+use Rattle.builder.specs.Steps.{small, Small, Whole, filterCountIn, filtersIn, lastState, lastFilters, endable, EndingIs}
 use Rattle.builder.specs.Writes.{Framed, IndexPut, EndFits, filterBlock, metaBlock, EndPut}
 use Rattle.table.proofs.OverlayLaws.{overlay-put, overlay-long}
 
@@ -41,8 +41,8 @@ filter-long f filters offsets h k =
     let x = block-of-long (take (f .bytes) filters) (take (f .made) offsets) in
     omega (arith, x, length-take-le (f .bytes) filters h, length-take-le (f .made) offsets k)
 
-pub meta-long : (s : Builder) (size : ℕ) → metaLen (choiceOf (s .options .filter)) (s .written) size ≡ length (metaBlock s size)
-unfolding metaLen metaBlock
+pub meta-long : (s : Builder) (size : ℕ) → metaSize (choiceOf (s .options .filter)) (s .written) size ≡ length (metaBlock s size)
+unfolding metaSize metaBlock
 meta-long s size =
     let p : Pair = record { key = metaName (choiceOf (s .options .filter)); value = handleBytes (record { offset = s .written; size = size }) } in
     sym (one-long (s .options .interval) p ∙ ap (λ (n : ℕ). n + 8) (entry-long 0 p ∙ ap (λ (n : ℕ). entrySize 0 (length (p .key)) n) (handle-length (s .written) size)))
@@ -59,7 +59,7 @@ module _ (s : Builder) (f : FilterSizes) (filters offsets index rs out : List �
     (fits : EndFits s f (length filters) (length offsets) (length index))
     (eb : block ≡ f .bytes + 4 * f .made + 5)
     (g₁ : block ≡ length (filterBlockOf (take (f .bytes) filters) (take (f .made) offsets)) → Framed out (s .written) (filterBlockOf (take (f .bytes) filters) (take (f .made) offsets)) o₁)
-    (em : meta ≡ metaLen (choiceOf (s .options .filter)) (s .written) block)
+    (em : meta ≡ metaSize (choiceOf (s .options .filter)) (s .written) block)
     (g₂ : 1 ≤ s .options .interval → s .options .interval ≤ 1024
     → meta ≡ length (blockBytes (s .options .interval) (record { key = metaName (choiceOf (s .options .filter)); value = handleBytes (record { offset = s .written; size = block }) } ∷ []))
     → Framed o₁ (s .written + block + 5) (blockBytes (s .options .interval) (record { key = metaName (choiceOf (s .options .filter)); value = handleBytes (record { offset = s .written; size = block }) } ∷ [])) o₂)
@@ -74,7 +74,7 @@ module _ (s : Builder) (f : FilterSizes) (filters offsets index rs out : List �
             let fb = filterBlockOf (take (f .bytes) filters) (take (f .made) offsets) in
             let b : block ≡ length fb = eb ∙ filter-long f filters offsets (fits .inFilters) (fits .inOffsets) in
             let mb = metaBlock s (length fb) in
-            let mm : meta ≡ length mb = em ∙ ap (metaLen (choiceOf (s .options .filter)) (s .written)) b ∙ meta-long s (length fb) in
+            let mm : meta ≡ length mb = em ∙ ap (metaSize (choiceOf (s .options .filter)) (s .written)) b ∙ meta-long s (length fb) in
             let ib = blockBytes i ps in
             let z : countSize (countIn (s .indexed)) ≡ length ib = sym (stands-size st) in
             let ss : size ≡ length ib = omega (arith, es, fits .indexSize, z) in

@@ -29,13 +29,13 @@ use Rattle.filters.proofs.FilterCountLaws.{made-over, made-enough, none-waits, 
 use Rattle.filter_block.specs.Choice.{choiceOf}
 use Rattle.table.specs.Options.{Options, indexInterval, optionsFit, filteringFits, tableLimit}
 use Rattle.table.specs.Build.{metaName}
-use Rattle.table.specs.Counts.{handleSize, countClose, countCloseLast, metaSize, finishedSize}
+use Rattle.table.specs.Counts.{handleSize, countClose, countCloseLast, metaSize, endSize, finishedSize}
 use Rattle.table.proofs.AcceptLaws.{within-parts, option-parts}
 use Rattle.builder.specs.declared.table_builder.Builder.{Builder}
 use Rattle.builder.specs.declared.table_builder.FilterSizes.{FilterSizes}
 use Rattle.builder.specs.declared.table_builder.Sizes.{Sizes}
 use Rattle.builder.specs.State.{optionsOf, countsIn}
-use Rattle.builder.specs.Steps.{small, Small, filterCountIn, filtersIn, openSize, lastOf, endsAt, filtersThen, closedState, Roomy, enteredState, lastState, metaLen, endSize, sizesIn, Whole}
+use Rattle.builder.specs.Steps.{small, Small, filterCountIn, filtersIn, openSize, lastOf, endsAt, filtersThen, closedState, Roomy, enteredState, lastState, sizesIn, Whole}
 
 -- ---- one entry more
 
@@ -253,15 +253,6 @@ module _ (s : Builder) (h : Small s) (w : Whole s) where
       go zero e = rw (← last-none s e) (cc)
       go (suc n) e = rw (← last-some s (λ z. omega arith)) (closed-counts (lastOf s) k ∙ (cc))
 
-  total : (d : Builder) (f : FilterSizes) (meta index : ℕ) → index ≡ countSize (countIn (d .indexed))
-      → filterBlockSize (countLast (choiceOf (s .options .filter)) (countsIn d .filters)) ≡ f .bytes + 4 * f .made + 5
-      → meta ≡ metaSize o (countsIn d .written) (filterBlockSize (countLast (choiceOf (s .options .filter)) (countsIn d .filters)))
-      → d .written + (f .bytes + 4 * f .made + 5 + 5) + (meta + 5) + (index + 5) + 48
-      ≡ (let b = countLast (o .filtering) (countsIn d .filters) in
-      countsIn d .written + (filterBlockSize b + 5) + (metaSize o (countsIn d .written) (filterBlockSize b) + 5) + (countSize (countsIn d .index) + 5) + 48)
-  unfolding countsIn optionsOf
-  total d f meta index i g m = omega (arith, i, g, m)
-
   block-size : (c : Filtering) (d : Builder) (f : FilterSizes) → filterCountIn f ≡ countLast c (record { bytes = d .filtered; made = d .made; waiting = d .waiting })
       → filterBlockSize (countLast c (countsIn d .filters)) ≡ f .bytes + 4 * f .made + 5
   unfolding countsIn filterBlockSize filterCountIn
@@ -271,14 +262,11 @@ module _ (s : Builder) (h : Small s) (w : Whole s) where
       → filterCountIn f ≡ countLast (choiceOf (s .options .filter)) (record { bytes = d .filtered; made = d .made; waiting = d .waiting })
       → index ≡ countSize (countIn (d .indexed))
       → endSize (choiceOf (s .options .filter)) (d .written) (f .bytes + 4 * f .made + 5) index ≡ finishedSize o (countsIn s)
-  unfolding finishedSize endSize
+  unfolding finishedSize
   finished-is k d f {index} e ef i =
       let c = choiceOf (s .options .filter) in
       let q : countsIn d ≡ countCloseLast o (countsIn s) = rw e (last-counts k) in
-      let g = block-size c d f ef in
-      let m : metaLen c (d .written) (f .bytes + 4 * f .made + 5) ≡ metaSize o (countsIn d .written) (filterBlockSize (countLast c (countsIn d .filters))) =
-      unfold metaSize metaLen optionsOf countsIn in ap (λ (n : ℕ). metaLen c (d .written) n) (sym g) in
-      rw (← q) (total d f (metaLen c (d .written) (f .bytes + 4 * f .made + 5)) index i g m)
+      rw (← q) (unfold countsIn optionsOf in ap₂ (endSize c (d .written)) (sym (block-size c d f ef)) i)
 
 module _ (s : Builder) (h : Small s) where
   -- its sums have 64 bits
@@ -386,8 +374,8 @@ module _ (s : Builder) (h : Small s) where
 
 -- the name and the metaindex's size
 pub meta-is : (c : Filtering) (offset size a b n x y : ℕ) → a ≡ varintSize offset → b ≡ varintSize size → n ≡ length (metaName c) → x ≡ varintSize n → y ≡ varintSize (a + b)
-    → 1 + x + y + n + (a + b) + 8 ≡ metaLen c offset size
-unfolding metaLen entrySize handleSize
+    → 1 + x + y + n + (a + b) + 8 ≡ metaSize c offset size
+unfolding metaSize entrySize handleSize
 meta-is c offset size a b n x y ea eb en ex ey =
     let u : varintSize 0 ≡ 1 = unfold varintBytes varintBytesF in refl in
     let v : x ≡ varintSize (length (metaName c)) = ex ∙ ap (λ (m : ℕ). length (varintBytes m)) en in

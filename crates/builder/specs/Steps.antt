@@ -7,13 +7,11 @@ use mathlib.Core.Bool.{Bool, true, _&&_, cond}
 use lib.Dec.{eqb, leb, ltb}
 use lib.ListN.{length, take}
 use Rattle.keys.specs.Order.{below, separator}
-use Rattle.blocks.specs.Count.{entrySize, countSize}
+use Rattle.blocks.specs.Count.{countSize}
 use Rattle.block_builder.specs.Builder.{countIn, newBuilder, builderAfter}
-use Rattle.filters.specs.FilterBlock.{Filtering}
 use Rattle.filters.specs.FilterCount.{FilterCount, countUpTo, countLast}
 use Rattle.filter_block.specs.Choice.{choiceOf}
 use Rattle.table.specs.Options.{filteringFits, tableLimit}
-use Rattle.table.specs.Build.{metaName}
 use Rattle.table.specs.Runs.{roomOf}
 use Rattle.table.specs.Counts.{handleSize, finishedSize}
 use Rattle.builder.specs.declared.table_builder.Lengths.{Lengths}
@@ -129,15 +127,7 @@ pub record Whole (s : Builder) : Type 0 where
   pub pending : length (s .pending .last) ≡ 1032
   pub indexed : length (s .indexed .last) ≡ 1032
 
--- the metaindex block's bytes
-unfoldable pub metaLen : Filtering → ℕ → ℕ → ℕ
-metaLen c offset size = entrySize 0 (length (metaName c)) (handleSize offset size) + 8
-
--- data blocks; filter block, metaindex and index block of such sizes with their trailers; the footer
-unfoldable pub endSize : Filtering → ℕ → ℕ → ℕ → ℕ
-endSize c written filter index = written + (filter + 5) + (metaLen c written filter + 5) + (index + 5) + 48
-
--- what that is reckoned from in a state
+-- what the finished table's size is reckoned from in a state
 unfoldable pub sizesIn : Builder → Sizes
 sizesIn s = record { written = s .written; index = countSize (countIn (s .indexed)); filtered = s .filtered; made = s .made; waiting = s .waiting }
 

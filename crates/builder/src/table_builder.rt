@@ -20,10 +20,10 @@ ghost use Rattle.keys.specs.Order.{below, separator, internal};
 ghost use Rattle.table.specs.Options.{optionsFit, filteringFits, emptySize, additionFits};
 ghost use Rattle.table.specs.Build.{metaName, footerBytes};
 ghost use Rattle.table.specs.Runs.{roomOf};
-ghost use Rattle.table.specs.Counts.{finishedSize};
+ghost use Rattle.table.specs.Counts.{metaSize, endSize, finishedSize};
 ghost use Rattle.builder.specs.State.{optionsOf, countsIn, seven, runsFit, sameLengths, sizesFit, sane, begun, noBuilder};
 ghost use Rattle.builder.specs.Answers.{StartedIs, AddedIs, FinishedIs};
-ghost use Rattle.builder.specs.Steps.{small, Small, filterCountIn, closedState, Roomy, enteredState, lastState, metaLen, endSize, sizesIn, Whole, cutOf, midOf, aboveLast, fitsOf, earlyOf, Ready, DecidedIs, EndingIs};
+ghost use Rattle.builder.specs.Steps.{small, Small, filterCountIn, closedState, Roomy, enteredState, lastState, sizesIn, Whole, cutOf, midOf, aboveLast, fitsOf, earlyOf, Ready, DecidedIs, EndingIs};
 ghost use Rattle.builder.specs.Writes.{sealedOut, ClosedOut, ClosedIndex, ClosedFilters, EnteredRuns, LastFilters, Framed, IndexPut, EndFits, EndPut};
 use block_builder::block_builder::BlockBuilder;
 use codec::put::Written;
@@ -442,7 +442,7 @@ fn name_len(f: Filter) -> usize
 
 // The metaindex block's bytes.
 fn meta_size(f: Filter, offset: usize, size: usize) -> usize
-    ensures { λ r. ⌜ (r ≡ metaLen (choiceOf f) offset size) × (r < 200) ⌝ }
+    ensures { λ r. ⌜ (r ≡ metaSize (choiceOf f) offset size) × (r < 200) ⌝ }
 {
     let handle = varint_len(offset) + varint_len(size);
     let n = name_len(f);

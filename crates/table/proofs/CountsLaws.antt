@@ -18,7 +18,7 @@ use Rattle.filters.proofs.FilterCountLaws.{wait-append, count-no-filters, count
 use Rattle.table.specs.Options.{Options, indexInterval, Addition}
 use Rattle.table.specs.Build.{Chunk, Building, keyOf, pairOf, chunkBytes, written, endOf, indexPairs, filtersOf, filterBytes, metaPair, metaBytes, indexBytes, begin, lastKey, close, closeBefore, add, closeLast, finish}
 use Rattle.table.specs.Runs.{filtersNow}
-use Rattle.table.specs.Counts.{Counts, countsOf, noCounts, handleSize, countClose, countCloseBefore, countAdd, countCloseLast, metaSize, finishedSize}
+use Rattle.table.specs.Counts.{Counts, countsOf, noCounts, handleSize, countClose, countCloseBefore, countAdd, countCloseLast, metaSize, endSize, finishedSize}
 use Rattle.table.specs.Sizes.{countsBegin, countsAdd, sizeFinished}
 use Rattle.table.proofs.FrameLaws.{framed-length}
 use Rattle.table.proofs.StepLaws.{written-append, index-append, filters-append, table-length, last-none, last-some}
@@ -126,7 +126,7 @@ module _ (o : Options) where
   unfolding filterBytes
   filter-block-size cs = rw (← count-last (o .filtering)) (count-block (o .filtering) (lastFilter (filtersOf o 0 noFilters cs)))
 
-  meta-size : (cs : List Chunk) → length (metaBytes o cs) ≡ metaSize o (length (written o cs)) (length (filterBytes o cs))
+  meta-size : (cs : List Chunk) → length (metaBytes o cs) ≡ metaSize (o .filtering) (length (written o cs)) (length (filterBytes o cs))
   unfolding metaBytes metaSize metaPair
   meta-size cs = rw (one-long, entry-long, handle-length)
 
@@ -139,7 +139,7 @@ unfolding add countAdd
 counts-add o b a = rw (← counts-before o (keyOf a) b) (counts-put o (closeBefore o (keyOf a) b) a)
 
 pub size-finished : sizeFinished
-unfolding finish finishedSize countsOf
+unfolding finish finishedSize endSize countsOf
 size-finished o b =
     let cs = closeLast b .closed in
     rw (← counts-last o b, last-filters o b, ← filter-block-size o cs)

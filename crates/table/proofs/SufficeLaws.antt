@@ -28,7 +28,7 @@ use Rattle.table.specs.Options.{Options, indexInterval, optionsFit, empt
 use Rattle.table.specs.Table.{Edge}
 use Rattle.table.specs.Build.{Chunk, Building, pairOf, written, endOf, indexPairs, filtersOf, begin, lastKey, closeLast, finish}
 use Rattle.table.specs.Runs.{Runs, filtersNow, entriesOf, restartsIn, held, between, finished, FitsRoom, roomOf, startOf}
-use Rattle.table.specs.Counts.{Counts, countsOf, countClose, finishedSize}
+use Rattle.table.specs.Counts.{Counts, countsOf, countClose, endSize, finishedSize}
 use Rattle.table.specs.Sizes.{runsSuffice}
 use Rattle.table.proofs.CheckedLaws.{asking, ask-pass}
 use Rattle.table.proofs.FrameLaws.{framed-length}
@@ -136,7 +136,7 @@ module _ (o : Options) where
       → (let d = countsOf o (closeLast b) in
       let k = countLast (o .filtering) (d .filters) in
       d .written + (k .bytes + 4 * k .made) + (d .index .bytes + 4 * d .index .restarts) ≤ length (finish o b))
-  finished-most b = rw (size-finished o b) (unfold finishedSize filterBlockSize countSize in rw (← counts-last o b) (omega arith))
+  finished-most b = rw (size-finished o b) (unfold finishedSize endSize filterBlockSize countSize in rw (← counts-last o b) (omega arith))
 
   module _ (room : ℕ) where
     -- the lengths of what the runs hold are counts

@@ -7,6 +7,7 @@ use lib.Dec.{ltb}
 use lib.ListN.{length}
 use Rattle.keys.specs.Order.{separator}
 use Rattle.blocks.specs.Count.{BlockCount, countOf, noEntries, varintSize, entrySize, countEntry, countSize}
+use Rattle.filters.specs.FilterBlock.{Filtering}
 use Rattle.filters.specs.FilterCount.{FilterCount, filterCountOf, countWaiting, countUpTo, countLast, filterBlockSize}
 use Rattle.table.specs.Options.{Options, indexInterval}
 use Rattle.table.specs.Build.{Building, pairOf, written, indexPairs, metaName}
@@ -76,12 +77,16 @@ unfoldable pub countCloseLast : Options → Counts → Counts
 countCloseLast o c = elim (c .openBlock .restarts) [ zero ↦ c | suc n ↦ countClose o (c .openBlock .last) c ]
 
 -- the metaindex block's bytes: one entry, one restart and the count
-unfoldable pub metaSize : Options → ℕ → ℕ → ℕ
-metaSize o offset size = entrySize 0 (length (metaName (o .filtering))) (handleSize offset size) + 8
+unfoldable pub metaSize : Filtering → ℕ → ℕ → ℕ
+metaSize f offset size = entrySize 0 (length (metaName f)) (handleSize offset size) + 8
 
--- the table finished now: data blocks; filter, metaindex and index block with their trailers; the footer
+-- data blocks; filter block, metaindex and index block of such sizes with their trailers; the footer
+unfoldable pub endSize : Filtering → ℕ → ℕ → ℕ → ℕ
+endSize f written filter index = written + (filter + 5) + (metaSize f written filter + 5) + (index + 5) + 48
+
+-- the table finished now
 unfoldable pub finishedSize : Options → Counts → ℕ
 finishedSize o c =
     let d = countCloseLast o c in
     let filter = filterBlockSize (countLast (o .filtering) (d .filters)) in
-    d .written + (filter + 5) + (metaSize o (d .written) filter + 5) + (countSize (d .index) + 5) + 48
+    endSize (o .filtering) (d .written) filter (countSize (d .index))

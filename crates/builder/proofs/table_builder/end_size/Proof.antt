@@ -1,5 +1,5 @@
 -- `builder::table_builder::end_size` meets its contract.
-use Rattle.builder.specs.Steps.{endSize}
+use Rattle.table.specs.Counts.{endSize}
 use borrow.Author.Needs.{needs}
 use Rattle.builder.proofs.table_builder.end_size.Statement.{statement}
 use Rattle.builder.proofs.table_builder.end_size.Tie as tie
