@@ -18,7 +18,7 @@ use Rattle.block_builder.specs.declared.block_builder.BlockBuilder.{Bloc
 use Rattle.block_builder.specs.declared.block_builder.Plan.the-variants.{Entry, Full}
 use Rattle.blocks.specs.Block.{headBytes, entryBytes, sharing, since, orZero, tailBytes}
 use Rattle.blocks.specs.Count.{BlockCount, varintSize, entrySize, countEntry, countSize}
-use Rattle.block_builder.specs.Builder.{countIn, builderWith, builderAfter, countsFit, countable, CountedIs, isRestart, nextBytes, nextRestart, addable, AddedIs}
+use Rattle.block_builder.specs.Builder.{countIn, builderWith, builderAfter, countsFit, countableAfter, countable, CountedIs, isRestart, nextBytes, nextRestart, addable, AddedIs}
 use Rattle.block_builder.specs.Plan.{planOf, sizeWith, roomFor}
 use Rattle.blocks.proofs.BuildLaws.{sharing-shares}
 use Rattle.blocks.proofs.CountLaws.{entry-long}
@@ -74,11 +74,11 @@ module _ (i : ℕ) (b : BlockCount) (key : List ℕ) (value : ℕ) where
   at-other e = (rw (ne-eqb (b .since) i e, countEntry), rw (ne-eqb (b .since) i e, since))
 
   plan-full : countsFit (countEntry i b key value) ≡ false → Full ≡ planOf i b key value
-  unfolding planOf
+  unfolding planOf countableAfter
   plan-full e = rw (e, and-false (leb (length key) 1032))
 
   pub plan-long : 1032 < length key → Full ≡ planOf i b key value
-  unfolding planOf
+  unfolding planOf countableAfter
   plan-long h = rw (lt-leb (length key) 1032 h)
 
   pub plan-large : 2 ^ 64 ≤ b .bytes + entrySize (sharing i (b .since) (b .last) key) (length key) value → Full ≡ planOf i b key value
@@ -93,7 +93,7 @@ module _ (i : ℕ) (b : BlockCount) (key : List ℕ) (value : ℕ) where
   plan-entry : (s x y z : ℕ) → length key ≤ 1032 → s ≡ sharing i (b .since) (b .last) key → x ≡ countEntry i b key value .bytes
       → y ≡ countEntry i b key value .restarts → z ≡ countEntry i b key value .since → x < 2 ^ 64 → y < 2 ^ 64 → z < 2 ^ 64
       → Entry s x y z ≡ planOf i b key value
-  unfolding planOf
+  unfolding planOf countableAfter
   plan-entry s x y z k es ex ey ez hx hy hz =
       let f = fits-all (countEntry i b key value) (rw ex at hx) (rw ey at hy) (rw ez at hz) in
       rw (le-leb (length key) 1032 k, f, es, ex, ey, ez)
@@ -192,46 +192,44 @@ entry-planned true s x y z s′ c e =
     (refl, cc, λ i. record { bytes = p i; restarts = q i; since = r i; last = c .last })
 entry-planned false s x y z s′ c e = absurd (never-full s x y z (sym e))
 
--- the size with it, by the plan
-module _ (i : ℕ) (b : BlockCount) (key : List ℕ) (value : ℕ) where
-  pub sized-none : planOf i b key value ≡ Full → 2 ^ 64 - 1 ≡ sizeWith i b key value
-  unfolding planOf sizeWith
-  sized-none e =
-      let c = countEntry i b key value in
-      rw (full-by (leb (length key) 1032 && countsFit c) (sharing i (b .since) (b .last) key) (c .bytes) (c .restarts) (c .since) e)
-
-  pub sized-some : {s x y z r : ℕ} → planOf i b key value ≡ Entry s x y z → r ≡ min (2 ^ 64 - 1) (x + 4 * max 1 y + 4) → r ≡ sizeWith i b key value
-  unfolding planOf sizeWith countSize
-  sized-some {s} {x} {y} {z} e h =
-      let p = entry-planned (leb (length key) 1032 && countsFit (countEntry i b key value)) s x y z _ (countEntry i b key value) e in
-      h ∙ ap (λ (c : BlockCount). min (2 ^ 64 - 1) (c .bytes + 4 * max 1 (c .restarts) + 4)) (p .2) ∙ rw (p .0)
-
 -- a plan of an entry says what it shares and the counts with it
-pub record Planned (b : BlockBuilder) (key : List ℕ) (value s x y z : ℕ) : Type 0 where
-  pub can : countable b key value ≡ true
-  pub shared : s ≡ sharing (b .interval) (b .since) (take (b .len) (b .last)) key
-  pub counts : record { bytes = x; restarts = y; since = z; last = key } ≡ countEntry (b .interval) (countIn b) key value
+pub record Planned (i : ℕ) (b : BlockCount) (key : List ℕ) (value s x y z : ℕ) : Type 0 where
+  pub can : countableAfter i b key value ≡ true
+  pub shared : s ≡ sharing i (b .since) (b .last) key
+  pub counts : record { bytes = x; restarts = y; since = z; last = key } ≡ countEntry i b key value
 
-module _ (b : BlockBuilder) (key : List ℕ) (value : ℕ) where
-  pub plan-none : planOf (b .interval) (countIn b) key value ≡ Full → countable b key value ≡ false
-  unfolding planOf countable
+module _ (i : ℕ) (b : BlockCount) (key : List ℕ) (value : ℕ) where
+  plan-none : planOf i b key value ≡ Full → countableAfter i b key value ≡ false
+  unfolding planOf
   plan-none e = full-by _ _ _ _ _ e
 
-  pub plan-some : {s x y z : ℕ} → planOf (b .interval) (countIn b) key value ≡ Entry s x y z → Planned b key value s x y z
-  unfolding planOf countable countIn countEntry
+  plan-some : {s x y z : ℕ} → planOf i b key value ≡ Entry s x y z → Planned i b key value s x y z
+  unfolding planOf countEntry
   plan-some {s} {x} {y} {z} e =
-      let r = entry-planned (countable b key value) s x y z _ (countEntry (b .interval) (countIn b) key value) e in
+      let r = entry-planned (countableAfter i b key value) s x y z _ (countEntry i b key value) e in
       record { can = r .0; shared = r .1; counts = r .2 }
 
+  -- the size with it
+  pub sized-none : planOf i b key value ≡ Full → 2 ^ 64 - 1 ≡ sizeWith i b key value
+  unfolding sizeWith
+  sized-none e = rw (plan-none e)
+
+  pub sized-some : {s x y z r : ℕ} → planOf i b key value ≡ Entry s x y z → r ≡ min (2 ^ 64 - 1) (x + 4 * max 1 y + 4) → r ≡ sizeWith i b key value
+  unfolding sizeWith countSize
+  sized-some e h =
+      let p = plan-some e in
+      h ∙ ap (λ (c : BlockCount). min (2 ^ 64 - 1) (c .bytes + 4 * max 1 (c .restarts) + 4)) (p .counts) ∙ rw (p .can)
+
+module _ (b : BlockBuilder) (key : List ℕ) (value : ℕ) where
   -- counting answers
   pub counted-none : planOf (b .interval) (countIn b) key value ≡ Full → CountedIs b key value (record { fits = false; block = b })
-  counted-none e = let f = plan-none e in record { fits = sym f; block = rw f }
+  counted-none e = let f = plan-none (b .interval) (countIn b) key value e in record { fits = sym f; block = rw f }
 
   pub counted-one : {s x y z : ℕ} {r : BlockBuilder} → planOf (b .interval) (countIn b) key value ≡ Entry s x y z
       → r ≡ builderWith b (record { bytes = x; restarts = y; since = z; last = key }) key → CountedIs b key value (record { fits = true; block = r })
   unfolding builderAfter
   counted-one e h =
-      let p = plan-some e in
+      let p = plan-some (b .interval) (countIn b) key value e in
       record { fits = sym (p .can); block = rw (p .can) (h ∙ ap (λ (c : BlockCount). builderWith b c key) (p .counts)) }
 
 -- the counts with an entry
@@ -264,25 +262,28 @@ module _ (b : BlockBuilder) (at : ℕ) (out restarts key value : List ℕ) where
   -- adding answers
   pub added-none : planOf (b .interval) (countIn b) key (length value) ≡ Full
       → AddedIs b at out out restarts restarts key value (record { fits = false; block = b })
-  added-none e = refused (unfold addable in rw (plan-none b key (length value) e))
+  added-none e = refused (unfold addable in rw (plan-none (b .interval) (countIn b) key (length value) e))
 
   module _ {s x y z : ℕ} (e : planOf (b .interval) (countIn b) key (length value) ≡ Entry s x y z) where
+    plan : Planned (b .interval) (countIn b) key (length value) s x y z
+    plan = plan-some (b .interval) (countIn b) key (length value) e
+
     as-room : addable b at out restarts key value ≡ roomFor (length out) at x (length restarts) y (b .bytes)
     as-room =
-        let p = plan-some b key (length value) e in
-        addable-room (p .can) ∙ sym (ap (λ (c : BlockCount). roomFor (length out) at (c .bytes) (length restarts) (c .restarts) (b .bytes)) (p .counts))
+        addable-room (plan .can) ∙ sym (ap (λ (c : BlockCount). roomFor (length out) at (c .bytes) (length restarts) (c .restarts) (b .bytes)) (plan .counts))
 
     pub added-full : roomFor (length out) at x (length restarts) y (b .bytes) ≡ false
         → AddedIs b at out out restarts restarts key value (record { fits = false; block = b })
     added-full f = refused (as-room ∙ f)
 
     as-next : entryBytes s (record { key = key; value = value }) ≡ nextBytes b key value
-    unfolding nextBytes
-    as-next = rw (plan-some b key (length value) e .shared)
+    unfolding nextBytes countIn
+    as-next = rw (plan .shared)
 
     -- what the writes ask
     pub share-in : s ≤ length key
-    share-in = rw (plan-some b key (length value) e .shared) (sharing-shares (b .interval) (b .since) (take (b .len) (b .last)) key .inKey)
+    unfolding countIn
+    share-in = rw (plan .shared) (sharing-shares (b .interval) (b .since) (take (b .len) (b .last)) key .inKey)
 
     module _ (h : roomFor (length out) at x (length restarts) y (b .bytes) ≡ true) where
       is : (at + x ≤ length out) × (y ≤ length restarts) × (b .bytes < 2 ^ 32)
@@ -290,7 +291,7 @@ module _ (b : BlockBuilder) (at : ℕ) (out restarts key value : List ℕ) where
 
       pub room-out : at + b .bytes + length (entryBytes s (record { key = key; value = value })) ≤ length out
       room-out =
-          let c : x ≡ after b key value .bytes = ap (λ (c : BlockCount). c .bytes) (plan-some b key (length value) e .counts) in
+          let c : x ≡ after b key value .bytes = ap (λ (c : BlockCount). c .bytes) (plan .counts) in
           rw as-next (omega (arith, next-bytes b key value, is .0))
 
       pub mark-small : b .bytes < 2 ^ 32
@@ -306,7 +307,7 @@ module _ (b : BlockBuilder) (at : ℕ) (out restarts key value : List ℕ) where
           let t = as-room ∙ h in
           record {
             fits = sym t;
-            block = rw t (q ∙ ap (λ (c : BlockCount). builderWith b c key) (plan-some b key (length value) e .counts));
+            block = rw t (q ∙ ap (λ (c : BlockCount). builderWith b c key) (plan .counts));
             written = rw t (w .left ∙ ap (put out (at + b .bytes)) as-next);
             marked = rw t m;
           }

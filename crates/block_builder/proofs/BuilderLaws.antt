@@ -17,7 +17,7 @@ use Rattle.block_builder.specs.declared.block_builder.BlockBuilder.{Bloc
 use Rattle.block_builder.specs.declared.block_builder.Added.{Added}
 use Rattle.blocks.specs.Block.{Pair, lastKeyOf, since, sinceAll, packed, restartsOf, tailBytes, blockBytes}
 use Rattle.blocks.specs.Count.{BlockCount, countOf, noEntries, countEntry, countSize}
-use Rattle.block_builder.specs.Builder.{countIn, newBuilder, builderWith, builderAfter, countable, isRestart, nextBytes, nextRestart, addable, AddedIs, Counting, Stands}
+use Rattle.block_builder.specs.Builder.{countIn, newBuilder, builderWith, builderAfter, countableAfter, countable, isRestart, nextBytes, nextRestart, addable, AddedIs, Counting, Stands}
 use Rattle.blocks.proofs.BuildLaws.{packed-append, packed-one, restarts-append, restarts-one}
 use Rattle.blocks.proofs.CountLaws.{count-none, count-entry, count-size}
 use Rattle.block_builder.proofs.BuilderCode.{next-bytes, next-restarts}
@@ -57,7 +57,7 @@ module _ (b : BlockBuilder) (at : ℕ) (out restarts key value : List ℕ) where
   -- what an entry that fits has
   pub addable-is : addable b at out restarts key value ≡ true
       → (length key ≤ 1032) × (at + b .bytes + length (nextBytes b key value) ≤ length out) × (b .restarts + length (nextRestart b) ≤ length restarts)
-  unfolding addable countable room
+  unfolding addable countableAfter room
   addable-is e =
       let x = both (countable b key (length value)) _ e in
       let k = both (leb (length key) 1032) _ (x .0) in

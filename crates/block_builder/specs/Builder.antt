@@ -34,9 +34,13 @@ builderAfter b key value = builderWith b (countEntry (b .interval) (countIn b) k
 unfoldable pub countsFit : BlockCount → Bool
 countsFit c = ltb (c .bytes) (2 ^ 64) && (ltb (c .restarts) (2 ^ 64) && ltb (c .since) (2 ^ 64))
 
--- an entry can be counted: its key has at most 1,032 bytes, and the counts with it have 64 bits
-unfoldable pub countable : BlockBuilder → List ℕ → ℕ → Bool
-countable b key value = leb (length key) 1032 && countsFit (countEntry (b .interval) (countIn b) key value)
+-- an entry can be counted at interval i after some counts: its key has at most 1,032 bytes, and the counts with it have 64 bits
+unfoldable pub countableAfter : ℕ → BlockCount → List ℕ → ℕ → Bool
+countableAfter i b key value = leb (length key) 1032 && countsFit (countEntry i b key value)
+
+-- and after the counts that a builder holds
+abbrev pub countable : BlockBuilder → List ℕ → ℕ → Bool
+countable b key value = countableAfter (b .interval) (countIn b) key value
 
 -- counting an entry answers r
 pub record CountedIs (b : BlockBuilder) (key : List ℕ) (value : ℕ) (r : Counted) : Type 0 where

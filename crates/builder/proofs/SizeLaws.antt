@@ -2,7 +2,7 @@
 use Prim.Native.Nat.{ℕ, zero, suc, _+_, _*_, _/_, _^_, _-_, _≤_, _<_, min}
 use mathlib.Core.Path.{_≡_, refl, sym, ap, ap₂, _∙_}
 use mathlib.Core.List.{List}
-use mathlib.Core.Bool.{true, _&&_}
+use mathlib.Core.Bool.{true}
 use native.Mathlib.Nat.{mul-le-mul-left}
 use native.Mathlib.Omega.{arith}
 use lib.Dec.{eqb, leb, ltb}
@@ -16,7 +16,7 @@ use Rattle.block_builder.specs.declared.block_builder.Counted.{Counted}
 use Rattle.blocks.specs.Block.{since, sharing}
 use Rattle.blocks.specs.Formed.{bloomName}
 use Rattle.blocks.specs.Count.{BlockCount, noEntries, varintSize, entrySize, countEntry, countSize}
-use Rattle.block_builder.specs.Builder.{countIn, newBuilder, builderWith, builderAfter, countsFit, countable, CountedIs}
+use Rattle.block_builder.specs.Builder.{countIn, newBuilder, builderWith, builderAfter, countableAfter, countable, CountedIs}
 use Rattle.block_builder.specs.Plan.{sizeWith}
 use Rattle.block_builder.proofs.BuilderLaws.{counting-none, counts-with}
 use Rattle.block_builder.proofs.BuilderCode.{fits-all}
@@ -52,7 +52,7 @@ entry-bytes i b key v =
 -- it can be counted
 pub countable-small : (b : BlockBuilder) (key : List ℕ) (v : ℕ) → length key ≤ 1032 → v ≤ 2 ^ 40 → b .bytes ≤ 2 ^ 40 → b .restarts ≤ 2 ^ 40 → b .since ≤ b .interval → 1 ≤ b .interval
     → b .interval ≤ 1024 → countable b key v ≡ true
-unfolding countable countIn
+unfolding countableAfter countIn
 countable-small b key v k h x y s l m =
     let e = countEntry (b .interval) (countIn b) key v in
     let z : e .since ≤ b .interval = unfold countEntry in since-most (b .interval) (b .since) l s in
@@ -300,13 +300,9 @@ module _ (s : Builder) (h : Small s) (key : List ℕ) (k : length key ≤ 1032) 
   abbrev counts : ℕ → BlockCount
   counts v = countEntry (s .indexed .interval) (countIn (s .indexed)) key v
 
-  can-count : (v : ℕ) → v ≤ 20 → (leb (length key) 1032 && countsFit (counts v)) ≡ true
-  unfolding countable
-  can-count v l = index-countable s h key k v l
-
   with-entry : (v : ℕ) → v ≤ 20 → sizeWith (s .indexed .interval) (countIn (s .indexed)) key v ≡ min (2 ^ 64 - 1) (countSize (counts v))
   unfolding sizeWith
-  with-entry v l = rw (can-count v l)
+  with-entry v l = rw (index-countable s h key k v l)
 
   index-after : countSize (countIn (closedState s key .indexed)) ≡ countSize (counts (handleSize (s .written) (openSize s)))
   unfolding closedState builderAfter builderWith countIn countSize countEntry
