@@ -38,7 +38,7 @@ use Rattle.table.proofs.SufficeLaws.{Rooms}
 use Rattle.table.proofs.CountsLaws.{wait-none, handle-length, chunk-size, counts-close}
 use Rattle.builder.specs.declared.table_builder.Builder.{Builder}
 use Rattle.builder.specs.State.{optionsOf, countsIn}
-use Rattle.builder.specs.Steps.{Small, Whole, openSize, endsAt, closedState}
+use Rattle.builder.specs.Steps.{Small, Whole, openSize, endsAt, closeIn, closedState}
 use Rattle.builder.specs.Writes.{tailedOut, sealedOut, ClosedOut, ClosedIndex, ClosedFilters}
 use Rattle.builder.proofs.SizeLaws.{closed-counts, index-countable}
 use Rattle.table.proofs.OverlayLaws.{overlay-none, overlay-front, overlay-of, overlay-long, overlay-put, overlay-first, overlay-same, each, all-seven}
@@ -296,7 +296,7 @@ module _ {o : Options} {b : Building} {s : Builder} (h : Counted o b s) (m : Sma
   closed-index x y {x′} {y′} {a} g p q lx ly u =
       let st = index-stands h x y p q in
       let after = lens closed-counted in
-      let z : builderAfter (s .indexed) key (length handle) ≡ closedState s key .indexed = unfold closedState in ap (builderAfter (s .indexed) key) (handle-length (s .written) (openSize s)) in
+      let z : builderAfter (s .indexed) key (length handle) ≡ closedState s key .indexed = unfold closedState closeIn in ap (builderAfter (s .indexed) key) (handle-length (s .written) (openSize s)) in
       let zb = ap (λ (c : BlockBuilder). c .bytes) z in
       let zr = ap (λ (c : BlockBuilder). c .restarts) z in
       let fits : a .fits ≡ true =

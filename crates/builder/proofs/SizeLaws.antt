@@ -33,9 +33,10 @@ use Rattle.table.specs.Counts.{handleSize, countClose, countCloseLast, metaSize
 use Rattle.table.proofs.AcceptLaws.{within-parts, option-parts}
 use Rattle.builder.specs.declared.table_builder.Builder.{Builder}
 use Rattle.builder.specs.declared.table_builder.FilterSizes.{FilterSizes}
+use Rattle.builder.specs.declared.table_builder.Close.{Close}
 use Rattle.builder.specs.declared.table_builder.Sizes.{Sizes}
 use Rattle.builder.specs.State.{optionsOf, countsIn}
-use Rattle.builder.specs.Steps.{small, Small, filterCountIn, filtersIn, openSize, lastOf, endsAt, filtersThen, closedState, Roomy, enteredState, lastState, sizesIn, Whole}
+use Rattle.builder.specs.Steps.{small, Small, filterCountIn, filtersIn, openSize, lastOf, endsAt, closeIn, closedState, Roomy, enteredState, lastState, sizesIn, Whole}
 
 -- ---- one entry more
 
@@ -108,45 +109,55 @@ module _ (s : Builder) (h : Small s) where
   pub filter-room : s .filtered + filterBytesOf (choiceOf (s .options .filter)) (s .waiting) ≤ 150994953
   filter-room = omega (arith, h .filtered, h .waiting, filter-most (choiceOf (s .options .filter)) (s .waiting) (h .fits))
 
+  -- it closed, in numbers
+  pub close-is : {size a b : ℕ} {f : FilterSizes}
+      → size ≡ min (2 ^ 64 - 1) (countSize (countIn (s .pending))) → a ≡ length (varintBytes (s .written)) → b ≡ length (varintBytes size)
+      → filterCountIn f ≡ countMade (choiceOf (s .options .filter)) ((s .written + size + 5) / 2048) (record { bytes = s .filtered; made = s .made; waiting = s .waiting })
+      → _≡_ {A = Close} (record { end = s .written + size + 5; handle = a + b; filtered = f .bytes; made = f .made; waiting = f .waiting }) (closeIn s)
+  unfolding closeIn endsAt countUpTo filtersIn filterCountIn handleSize
+  close-is {size} {a} {b} es ea eb ef =
+      let x : size ≡ openSize s = size-exact es in
+      let v : a + b ≡ varintSize (s .written) + varintSize (openSize s) = ap₂ _+_ ea (eb ∙ ap (λ (n : ℕ). length (varintBytes n)) x) in
+      let g = ef ∙ ap (λ (n : ℕ). countMade (choiceOf (s .options .filter)) ((s .written + n + 5) / 2048) (record { bytes = s .filtered; made = s .made; waiting = s .waiting })) x in
+      λ j. record { end = s .written + x j + 5; handle = v j; filtered = g j .bytes; made = g j .made; waiting = g j .waiting }
+
+  handle-most : closeIn s .handle ≤ 20
+  unfolding closeIn handleSize
+  handle-most = omega (arith, varint-bytes-length (s .written), varint-bytes-length (openSize s))
+
   module _ (key : List ℕ) (k : length key ≤ 1032) where
     pub index-countable : (v : ℕ) → v ≤ 20 → countable (s .indexed) key v ≡ true
     index-countable v l =
         countable-small (s .indexed) key v k (omega arith) (omega (arith, h .indexBytes)) (omega (arith, h .indexRestarts))
         (omega (arith, h .indexSince, h .indexInterval)) (omega (arith, h .least, h .indexInterval)) (omega (arith, h .most, h .indexInterval))
 
-    pub closed-is : {size a b : ℕ} {r : Counted} {f : FilterSizes} {e : BlockBuilder}
-        → size ≡ min (2 ^ 64 - 1) (countSize (countIn (s .pending))) → a ≡ length (varintBytes (s .written)) → b ≡ length (varintBytes size)
-        → CountedIs (s .indexed) key (a + b) r
-        → filterCountIn f ≡ countMade (choiceOf (s .options .filter)) ((s .written + size + 5) / 2048) (record { bytes = s .filtered; made = s .made; waiting = s .waiting })
-        → e ≡ newBuilder (s .options .interval)
+    pub closed-is : {c : Close} {r : Counted} {e : BlockBuilder} → c ≡ closeIn s → CountedIs (s .indexed) key (c .handle) r → e ≡ newBuilder (s .options .interval)
         → _≡_ {A = Builder}
         (record {
           options = s .options;
           lengths = s .lengths;
-          written = s .written + size + 5;
+          written = c .end;
           pending = e;
           indexed = r .block;
-          filtered = f .bytes;
-          made = f .made;
-          waiting = f .waiting;
+          filtered = c .filtered;
+          made = c .made;
+          waiting = c .waiting;
           finished = s .finished;
         })
         (closedState s key)
-    unfolding closedState endsAt filtersThen countUpTo filtersIn filterCountIn handleSize
-    closed-is {size} {a} {b} {r} {f} {e} es ea eb ec ef ee =
-        let x : size ≡ openSize s = size-exact es in
-        let v : a + b ≡ varintSize (s .written) + varintSize (openSize s) = ap₂ _+_ ea (eb ∙ ap (λ (n : ℕ). length (varintBytes n)) x) in
-        let i = counted-is ec (index-countable (a + b) (omega (arith, varint-bytes-length (s .written), varint-bytes-length size))) ∙ ap (builderAfter (s .indexed) key) v in
-        let g = ef ∙ ap (λ (n : ℕ). countMade (choiceOf (s .options .filter)) ((s .written + n + 5) / 2048) (record { bytes = s .filtered; made = s .made; waiting = s .waiting })) x in
+    unfolding closedState
+    closed-is {c} ec er ee =
+        let l : c .handle ≤ 20 = rw ec handle-most in
+        let i = counted-is er (index-countable (c .handle) l) ∙ ap (λ (x : Close). builderAfter (s .indexed) key (x .handle)) ec in
         λ j. record {
           options = s .options;
           lengths = s .lengths;
-          written = s .written + x j + 5;
+          written = ec j .end;
           pending = ee j;
           indexed = i j;
-          filtered = g j .bytes;
-          made = g j .made;
-          waiting = g j .waiting;
+          filtered = ec j .filtered;
+          made = ec j .made;
+          waiting = ec j .waiting;
           finished = s .finished;
         }
 
@@ -199,7 +210,7 @@ module _ (s : Builder) (h : Small s) where
   bounded-same = omega (arith, h .written, h .indexBytes, h .indexRestarts, h .filtered, h .made, h .waiting)
 
   pub bounded-closed : (key : List ℕ) → length key ≤ 1032 → Bounded (closedState s key)
-  unfolding closedState endsAt filtersThen countUpTo filtersIn builderAfter builderWith handleSize countIn
+  unfolding closedState closeIn endsAt countUpTo filtersIn builderAfter builderWith handleSize countIn
   bounded-closed key k =
       let c = choiceOf (s .options .filter) in
       let f : FilterCount = record { bytes = s .filtered; made = s .made; waiting = s .waiting } in
@@ -233,7 +244,7 @@ module _ (s : Builder) (h : Small s) (w : Whole s) where
   o = optionsOf (s .options)
 
   pub closed-counts : (key : List ℕ) → length key ≤ 1032 → countsIn (closedState s key) ≡ countClose o key (countsIn s)
-  unfolding countsIn closedState countClose optionsOf indexInterval endsAt openSize filtersThen filtersIn
+  unfolding countsIn closedState closeIn countClose optionsOf indexInterval endsAt openSize filtersIn
   closed-counts key k =
       let n = s .options .interval in
       let v = handleSize (s .written) (countSize (countIn (s .pending))) in
@@ -297,14 +308,12 @@ module _ (s : Builder) (h : Small s) where
 -- ---- the sizes alone
 
 module _ (s : Builder) (h : Small s) (key : List ℕ) (k : length key ≤ 1032) where
-  abbrev counts : ℕ → BlockCount
-  counts v = countEntry (s .indexed .interval) (countIn (s .indexed)) key v
-
-  with-entry : (v : ℕ) → v ≤ 20 → sizeWith (s .indexed .interval) (countIn (s .indexed)) key v ≡ min (2 ^ 64 - 1) (countSize (counts v))
+  with-entry : (v : ℕ) → v ≤ 20
+      → sizeWith (s .indexed .interval) (countIn (s .indexed)) key v ≡ min (2 ^ 64 - 1) (countSize (countEntry (s .indexed .interval) (countIn (s .indexed)) key v))
   unfolding sizeWith
   with-entry v l = rw (index-countable s h key k v l)
 
-  index-after : countSize (countIn (closedState s key .indexed)) ≡ countSize (counts (handleSize (s .written) (openSize s)))
+  index-after : countSize (countIn (closedState s key .indexed)) ≡ countSize (countEntry (s .indexed .interval) (countIn (s .indexed)) key (closeIn s .handle))
   unfolding closedState builderAfter builderWith countIn countSize countEntry
   index-after = refl
 
@@ -312,39 +321,20 @@ module _ (s : Builder) (h : Small s) (key : List ℕ) (k : length key ≤ 1032) 
   unfolding countSize countIn
   index-most = let b = bounded-closed s h key k in omega (arith, b .indexBytes, b .indexRestarts)
 
-  index-size : {v more : ℕ} → v ≤ 20 → v ≡ handleSize (s .written) (openSize s) → more ≡ sizeWith (s .indexed .interval) (countIn (s .indexed)) key v
+  index-size : {c : Close} {more : ℕ} → c ≡ closeIn s → more ≡ sizeWith (s .indexed .interval) (countIn (s .indexed)) key (c .handle)
       → more ≡ countSize (countIn (closedState s key .indexed))
-  index-size {v} {more} l ev em =
-      let m = em ∙ with-entry v l in
-      let e : countSize (counts v) ≡ countSize (counts (handleSize (s .written) (openSize s))) = ap (λ (n : ℕ). countSize (counts n)) ev in
-      omega (arith, m, e, index-after, index-most)
+  index-size {more = more} ec em =
+      let m = em ∙ ap (λ (x : Close). sizeWith (s .indexed .interval) (countIn (s .indexed)) key (x .handle)) ec ∙ with-entry (closeIn s .handle) (handle-most s h) in
+      omega (arith, m, index-after, index-most)
 
-  handle-is : {size a b : ℕ} → size ≡ openSize s → a ≡ length (varintBytes (s .written)) → b ≡ length (varintBytes size) → a + b ≡ handleSize (s .written) (openSize s)
-  unfolding handleSize
-  handle-is x ea eb = ap₂ _+_ ea (eb ∙ ap (λ (n : ℕ). length (varintBytes n)) x)
-
-  pub closed-sizes-are : {size a b more : ℕ} {f : FilterSizes}
-      → size ≡ min (2 ^ 64 - 1) (countSize (countIn (s .pending))) → a ≡ length (varintBytes (s .written)) → b ≡ length (varintBytes size)
-      → more ≡ sizeWith (s .indexed .interval) (countIn (s .indexed)) key (a + b)
-      → filterCountIn f ≡ countMade (choiceOf (s .options .filter)) ((s .written + size + 5) / 2048) (record { bytes = s .filtered; made = s .made; waiting = s .waiting })
+  pub closed-sizes-are : {c : Close} {more : ℕ} → c ≡ closeIn s → more ≡ sizeWith (s .indexed .interval) (countIn (s .indexed)) key (c .handle)
       → _≡_ {A = Sizes}
-      (record { written = s .written + size + 5; index = more; filtered = f .bytes; made = f .made; waiting = f .waiting })
+      (record { written = c .end; index = more; filtered = c .filtered; made = c .made; waiting = c .waiting })
       (sizesIn (closedState s key))
-  closed-sizes-are {size} {a} {b} {more} {f} es ea eb em ef =
-      let x : size ≡ openSize s = size-exact s h es in
-      let v = handle-is x ea eb in
-      let i = index-size (omega (arith, varint-bytes-length (s .written), varint-bytes-length size)) v em in
-      let g = ef ∙ ap (λ (n : ℕ). countMade (choiceOf (s .options .filter)) ((s .written + n + 5) / 2048) (record { bytes = s .filtered; made = s .made; waiting = s .waiting })) x in
-      go x i g
-    where
-      go : {size more : ℕ} {f : FilterSizes} → size ≡ openSize s → more ≡ countSize (countIn (closedState s key .indexed))
-          → filterCountIn f ≡ countMade (choiceOf (s .options .filter)) ((s .written + openSize s + 5) / 2048) (record { bytes = s .filtered; made = s .made; waiting = s .waiting })
-          → _≡_ {A = Sizes}
-          (record { written = s .written + size + 5; index = more; filtered = f .bytes; made = f .made; waiting = f .waiting })
-          (sizesIn (closedState s key))
-      go x i g =
-          unfold sizesIn closedState endsAt filtersThen countUpTo filtersIn filterCountIn in
-          λ j. record { written = s .written + x j + 5; index = i j; filtered = g j .bytes; made = g j .made; waiting = g j .waiting }
+  closed-sizes-are ec em =
+      let i = index-size ec em in
+      unfold sizesIn closedState in
+      λ j. record { written = ec j .end; index = i j; filtered = ec j .filtered; made = ec j .made; waiting = ec j .waiting }
 
 module _ (s : Builder) (h : Small s) where
   pub sizes-none : s .pending .restarts ≡ 0 → {n : ℕ} → n ≡ min (2 ^ 64 - 1) (countSize (countIn (s .indexed)))

@@ -18,7 +18,8 @@ use Rattle.filter_block.specs.declared.filter_block.Made.{Made}
 use Rattle.filter_block.specs.Choice.{choiceOf}
 use Rattle.filter_block.specs.Make.{groupsUpTo, MadeFilters}
 use Rattle.builder.specs.declared.table_builder.Builder.{Builder}
-use Rattle.builder.specs.Steps.{Small, openSize, endsAt}
+use Rattle.builder.specs.declared.table_builder.Close.{Close}
+use Rattle.builder.specs.Steps.{Small, openSize, endsAt, closeIn}
 use Rattle.builder.specs.Writes.{tailedOut, sealedOut}
 use Rattle.builder.proofs.SizeLaws.{size-exact}
 
@@ -42,8 +43,8 @@ pub handle-exact : (s : Builder) → Small s → {key index index′ restarts re
     → AddedIs (s .indexed) 0 index index′ restarts restarts′ key (handleBytes (record { offset = s .written; size = openSize s })) x
 handle-exact s h {size = size} e i = let z : size ≡ openSize s = size-exact s h e in rw z at i
 
-pub end-exact : (s : Builder) → Small s → {f f′ q q′ : List ℕ} (hashes : List ℕ) {size : ℕ} {m : Made} → size ≡ min (2 ^ 64 - 1) (countSize (countIn (s .pending)))
-    → MadeFilters (choiceOf (s .options .filter)) (groupsUpTo (s .made) ((s .written + size + 5) / 2048) (take (s .waiting) hashes)) (s .filtered) (s .made) m f f′ q q′
+pub end-exact : (s : Builder) {f f′ q q′ : List ℕ} (hashes : List ℕ) {c : Close} {m : Made} → c ≡ closeIn s
+    → MadeFilters (choiceOf (s .options .filter)) (groupsUpTo (s .made) (c .end / 2048) (take (s .waiting) hashes)) (s .filtered) (s .made) m f f′ q q′
     → MadeFilters (choiceOf (s .options .filter)) (groupsUpTo (s .made) (endsAt s / 2048) (take (s .waiting) hashes)) (s .filtered) (s .made) m f f′ q q′
-unfolding endsAt
-end-exact s h hashes {size} e f = let z : size ≡ openSize s = size-exact s h e in rw z at f
+unfolding closeIn
+end-exact s hashes e f = rw e at f

@@ -17,6 +17,7 @@ use Rattle.table.specs.Counts.{handleSize, finishedSize}
 use Rattle.builder.specs.declared.table_builder.Lengths.{Lengths}
 use Rattle.builder.specs.declared.table_builder.Builder.{Builder}
 use Rattle.builder.specs.declared.table_builder.Plan.{Plan}
+use Rattle.builder.specs.declared.table_builder.Close.{Close}
 use Rattle.builder.specs.declared.table_builder.Sizes.{Sizes}
 use Rattle.builder.specs.declared.table_builder.Ending.{Ending}
 use Rattle.builder.specs.declared.table_builder.FilterSizes.{FilterSizes}
@@ -73,22 +74,25 @@ lastOf s = take (s .pending .len) (s .pending .last)
 unfoldable pub endsAt : Builder → ℕ
 endsAt s = s .written + openSize s + 5
 
--- the filters then
-unfoldable pub filtersThen : Builder → FilterCount
-filtersThen s = countUpTo (choiceOf (s .options .filter)) (endsAt s) (filtersIn s)
+-- what it is when it is closed: where it ends, its handle's bytes, and the filters then
+unfoldable pub closeIn : Builder → Close
+closeIn s =
+    let f = countUpTo (choiceOf (s .options .filter)) (endsAt s) (filtersIn s) in
+    record { end = endsAt s; handle = handleSize (s .written) (openSize s); filtered = f .bytes; made = f .made; waiting = f .waiting }
 
 -- the open block closed, and indexed under a key
 unfoldable pub closedState : Builder → List ℕ → Builder
 closedState s key =
+    let c = closeIn s in
     record {
       options = s .options;
       lengths = s .lengths;
-      written = endsAt s;
+      written = c .end;
       pending = newBuilder (s .options .interval);
-      indexed = builderAfter (s .indexed) key (handleSize (s .written) (openSize s));
-      filtered = filtersThen s .bytes;
-      made = filtersThen s .made;
-      waiting = filtersThen s .waiting;
+      indexed = builderAfter (s .indexed) key (c .handle);
+      filtered = c .filtered;
+      made = c .made;
+      waiting = c .waiting;
       finished = s .finished;
     }
 

@@ -23,7 +23,7 @@ ghost use Rattle.table.specs.Runs.{roomOf};
 ghost use Rattle.table.specs.Counts.{metaSize, endSize, finishedSize};
 ghost use Rattle.builder.specs.State.{optionsOf, countsIn, seven, runsFit, sameLengths, sizesFit, sane, begun, noBuilder};
 ghost use Rattle.builder.specs.Answers.{StartedIs, AddedIs, FinishedIs};
-ghost use Rattle.builder.specs.Steps.{small, Small, filterCountIn, closedState, Roomy, enteredState, lastState, sizesIn, Whole, cutOf, midOf, aboveLast, fitsOf, earlyOf, Ready, DecidedIs, EndingIs};
+ghost use Rattle.builder.specs.Steps.{small, Small, filterCountIn, closeIn, closedState, Roomy, enteredState, lastState, sizesIn, Whole, cutOf, midOf, aboveLast, fitsOf, earlyOf, Ready, DecidedIs, EndingIs};
 ghost use Rattle.builder.specs.Writes.{sealedOut, ClosedOut, ClosedIndex, ClosedFilters, EnteredRuns, LastFilters, Framed, IndexPut, EndFits, EndPut};
 use block_builder::block_builder::BlockBuilder;
 use codec::put::Written;
@@ -355,32 +355,57 @@ fn last_made(choice: Filter, bytes: usize, made: usize, waiting: usize) -> Filte
     made_until(choice, made + 1, bytes, made, waiting)
 }
 
-// The state with the open block closed and indexed under a key.
-fn closed(s: Builder, key: &[u8]) -> Builder
-    requires { ⌜ (Small s) × (length (now key) ≤ 1032) ⌝ }
-    ensures { λ r. ⌜ r ≡ closedState s (now (key .entry)) ⌝ }
+// What the open block is when it is closed, in numbers: where it ends, how many bytes its handle has, and the filters then.
+struct Close {
+    end: usize,
+    handle: usize,
+    filtered: usize,
+    made: usize,
+    waiting: usize,
+}
+
+// The same of a state.
+fn close_of(s: Builder) -> Close
+    requires { ⌜ Small s ⌝ }
+    ensures { λ r. ⌜ r ≡ closeIn s ⌝ }
 {
     let pending = s.pending;
     let size = pending.size_estimate();
     let end = s.written + size + 5;
     let handle = varint_len(s.written) + varint_len(size);
-    let indexed = s.indexed;
-    let counted = indexed.count(key, handle);
-    let index = counted.block;
     let options = s.options;
     let filter = options.filter;
     let f = made_until(filter, end / 2048, s.filtered, s.made, s.waiting);
+    Close {
+        end: end,
+        handle: handle,
+        filtered: f.bytes,
+        made: f.made,
+        waiting: f.waiting,
+    }
+}
+
+// The state with the open block closed and indexed under a key.
+fn closed(s: Builder, key: &[u8]) -> Builder
+    requires { ⌜ (Small s) × (length (now key) ≤ 1032) ⌝ }
+    ensures { λ r. ⌜ r ≡ closedState s (now (key .entry)) ⌝ }
+{
+    let c = close_of(s);
+    let indexed = s.indexed;
+    let counted = indexed.count(key, c.handle);
+    let index = counted.block;
+    let options = s.options;
     let lengths = s.lengths;
     let empty = BlockBuilder::new(options.interval);
     Builder {
         options: options,
         lengths: lengths,
-        written: end,
+        written: c.end,
         pending: empty,
         indexed: index,
-        filtered: f.bytes,
-        made: f.made,
-        waiting: f.waiting,
+        filtered: c.filtered,
+        made: c.made,
+        waiting: c.waiting,
         finished: s.finished,
     }
 }
@@ -474,13 +499,7 @@ fn closed_sizes(s: Builder, index: &[u8], last: &[u8], len: usize) -> Sizes
     requires { ⌜ (Small s) × (now index ≡ s .indexed .last) × (len ≤ length (now last)) × (len ≤ 1032) ⌝ }
     ensures { λ r. ⌜ r ≡ sizesIn (closedState s (take len (now (last .entry)))) ⌝ }
 {
-    let pending = s.pending;
-    let size = pending.size_estimate();
-    let end = s.written + size + 5;
-    let handle = varint_len(s.written) + varint_len(size);
-    let options = s.options;
-    let filter = options.filter;
-    let f = made_until(filter, end / 2048, s.filtered, s.made, s.waiting);
+    let c = close_of(s);
     let indexed = s.indexed;
     let more = block_builder::block_builder::size_with(
         indexed.interval,
@@ -490,14 +509,14 @@ fn closed_sizes(s: Builder, index: &[u8], last: &[u8], len: usize) -> Sizes
         index,
         indexed.len,
         &last[..len],
-        handle,
+        c.handle,
     );
     Sizes {
-        written: end,
+        written: c.end,
         index: more,
-        filtered: f.bytes,
-        made: f.made,
-        waiting: f.waiting,
+        filtered: c.filtered,
+        made: c.made,
+        waiting: c.waiting,
     }
 }
 
@@ -757,16 +776,14 @@ fn close_filters(closing: bool, s: Builder, filters: &mut [u8], offsets: &mut [u
     if !closing {
         return;
     }
-    let pending = s.pending;
-    let size = pending.size_estimate();
-    let end = s.written + size + 5;
+    let c = close_of(s);
     let options = s.options;
     let filter = options.filter;
     filter_blocks(
         filter,
         hashes,
         s.waiting,
-        end / 2048,
+        c.end / 2048,
         filters,
         s.filtered,
         offsets,
