@@ -9,7 +9,7 @@ filter-in-requires c κs = search needs
 
 returns : tie.Need-returns
 unfolding builderIn
-returns c = cc
+returns c = rw (c .before .filter-in .ensures)
 
 pub builder-in-spec : {M : Type 1} → statement M
 builder-in-spec =

@@ -15,7 +15,7 @@ number-if-requires c κs = search needs
 
 returns : tie.Need-returns
 unfolding stateOut
-returns c = cc
+returns c = rw (c .before .before .filter-number .ensures, c .before .filter-bits .ensures, c .number-if .ensures)
 
 pub state-out-spec : {M : Type 1} → statement M
 state-out-spec =

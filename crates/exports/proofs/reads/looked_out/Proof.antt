@@ -1,4 +1,5 @@
 -- `exports::reads::looked_out` meets its contract.
+use mathlib.Core.Path.{sym, ap, _∙_}
 use Rattle.exports.specs.Reads.{lookedOut}
 use borrow.Author.Needs.{needs}
 use Rattle.exports.proofs.reads.looked_out.Statement.{statement}
@@ -30,19 +31,19 @@ no-entry-requires-2 c κs = search needs
 
 returns : tie.Need-returns
 unfolding lookedOut
-returns c = cc
+returns c = c .entry-with .ensures ∙ ap lookedOut (sym (c .before .before .f .given .1))
 
 returns-2 : tie.Need-returns-2
 unfolding lookedOut
-returns-2 c = cc
+returns-2 c = c .entry-with2 .ensures ∙ ap lookedOut (sym (c .before .before .f2 .given .1))
 
 returns-3 : tie.Need-returns-3
 unfolding lookedOut
-returns-3 c = cc
+returns-3 c = c .no-entry .ensures ∙ ap lookedOut (sym (c .before .enum-told .given .1))
 
 returns-4 : tie.Need-returns-4
 unfolding lookedOut
-returns-4 c = cc
+returns-4 c = c .no-entry2 .ensures ∙ ap lookedOut (sym (c .before .before .f3 .given .1))
 
 pub looked-out-spec : {M : Type 1} → statement M
 looked-out-spec =

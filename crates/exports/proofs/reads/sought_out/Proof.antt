@@ -1,4 +1,5 @@
 -- `exports::reads::sought_out` meets its contract.
+use mathlib.Core.Path.{sym, ap, _∙_}
 use Rattle.exports.specs.Reads.{soughtOut}
 use borrow.Author.Needs.{needs}
 use Rattle.exports.proofs.reads.sought_out.Statement.{statement}
@@ -24,15 +25,15 @@ no-entry-requires-2 c κs = search needs
 
 returns : tie.Need-returns
 unfolding soughtOut
-returns c = cc
+returns c = c .entry-with .ensures ∙ ap soughtOut (sym (c .before .before .s .given .1))
 
 returns-2 : tie.Need-returns-2
 unfolding soughtOut
-returns-2 c = cc
+returns-2 c = c .no-entry .ensures ∙ ap soughtOut (sym (c .before .enum-told .given .1))
 
 returns-3 : tie.Need-returns-3
 unfolding soughtOut
-returns-3 c = cc
+returns-3 c = c .no-entry2 .ensures ∙ ap soughtOut (sym (c .before .before .s2 .given .1))
 
 pub sought-out-spec : {M : Type 1} → statement M
 sought-out-spec =

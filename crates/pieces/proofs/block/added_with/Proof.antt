@@ -9,7 +9,7 @@ number-if-requires c κs = search needs
 
 returns : tie.Need-returns
 unfolding addedWith
-returns c = cc
+returns c = rw (c .number-if .ensures)
 
 pub added-with-spec : {M : Type 1} → statement M
 added-with-spec = tie.close (tie.spec number-if-requires returns)

@@ -1,4 +1,5 @@
 -- `pieces::numbers::size_out` meets its contract.
+use mathlib.Core.Path.{sym, ap}
 use Rattle.pieces.specs.Numbers.{sizeOut}
 use borrow.Author.Needs.{needs}
 use Rattle.pieces.proofs.numbers.size_out.Statement.{statement}
@@ -12,11 +13,11 @@ enum-told c = search needs
 
 returns : tie.Need-returns
 unfolding sizeOut
-returns c = cc
+returns c = ap sizeOut (sym (c .before .w .given .1))
 
 returns-2 : tie.Need-returns-2
 unfolding sizeOut
-returns-2 c = cc
+returns-2 c = ap sizeOut (sym (c .enum-told .given .1))
 
 pub size-out-spec : {M : Type 1} → statement M
 size-out-spec = tie.close (tie.spec enum-known-w enum-told returns returns-2)
