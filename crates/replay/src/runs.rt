@@ -108,29 +108,27 @@ fn store_number(s: &mut [u32], i: usize, x: u32) {
     }
 }
 
-// A run of bytes filled with a pattern.
-fn fill(s: &mut [u8], pattern: u8) {
-    let mut i: usize = 0;
-    while i < s.len() {
-        store(s, i, pattern ^ ((i % 251) as u8));
-        i = i + 1;
-    }
+fn longer(a: usize, b: usize) -> usize {
+    if a < b { b } else { a }
 }
 
-// A run of numbers filled with a pattern.
-fn fill_numbers(s: &mut [u32], pattern: u32) {
+// A run of bytes and one of numbers filled, each with a pattern. Where one kind is meant, the other is a run of one.
+fn fill(bytes: &mut [u8], pattern: u8, numbers: &mut [u32], mark: u32) {
+    let end = longer(bytes.len(), numbers.len());
     let mut i: usize = 0;
-    while i < s.len() {
-        store_number(s, i, pattern ^ ((i % 65536) as u32));
+    while i < end {
+        store(bytes, i, pattern ^ ((i % 251) as u8));
+        store_number(numbers, i, mark ^ ((i % 65536) as u32));
         i = i + 1;
     }
 }
 
 // Each run of bytes filled with a pattern of its own.
 fn lay_bytes(out: &mut [u8], index: &mut [u8], filters: &mut [u8]) {
-    fill(out, 0x11);
-    fill(index, 0x53);
-    fill(filters, 0x95);
+    let mut none = [0u32; 1];
+    fill(out, 0x11, &mut none, 0);
+    fill(index, 0x53, &mut none, 0);
+    fill(filters, 0x95, &mut none, 0);
 }
 
 fn lay_numbers(
@@ -139,10 +137,11 @@ fn lay_numbers(
     offsets: &mut [u32],
     hashes: &mut [u32],
 ) {
-    fill_numbers(restarts, 0xa000_0000);
-    fill_numbers(index_restarts, 0xb000_0000);
-    fill_numbers(offsets, 0xc000_0000);
-    fill_numbers(hashes, 0xd000_0000);
+    let mut none = [0u8; 1];
+    fill(&mut none, 0, restarts, 0xa000_0000);
+    fill(&mut none, 0, index_restarts, 0xb000_0000);
+    fill(&mut none, 0, offsets, 0xc000_0000);
+    fill(&mut none, 0, hashes, 0xd000_0000);
 }
 
 fn swap_at(a: &mut [u8], b: &mut [u8], i: usize) {
@@ -155,79 +154,86 @@ fn swap_at(a: &mut [u8], b: &mut [u8], i: usize) {
     }
 }
 
-fn swap_number_at(a: &mut [u32], b: &mut [u32], i: usize) {
-    if i < a.len() {
-        if i < b.len() {
-            let t = a[i];
-            a[i] = b[i];
-            b[i] = t;
+fn swap_number_at(x: &mut [u32], y: &mut [u32], i: usize) {
+    if i < x.len() {
+        if i < y.len() {
+            let t = x[i];
+            x[i] = y[i];
+            y[i] = t;
         }
     }
 }
 
-// Two runs of bytes exchanged.
-fn swap(a: &mut [u8], b: &mut [u8]) {
+// Two runs of bytes exchanged, and two of numbers likewise.
+fn swap(a: &mut [u8], b: &mut [u8], x: &mut [u32], y: &mut [u32]) {
+    let end = longer(a.len(), x.len());
     let mut i: usize = 0;
-    while i < a.len() {
+    while i < end {
         swap_at(a, b, i);
-        i = i + 1;
-    }
-}
-
-// Two runs of numbers exchanged.
-fn swap_numbers(a: &mut [u32], b: &mut [u32]) {
-    let mut i: usize = 0;
-    while i < a.len() {
-        swap_number_at(a, b, i);
+        swap_number_at(x, y, i);
         i = i + 1;
     }
 }
 
 // Two of the runs of bytes, by the number of the pair.
 fn exchange_bytes(pair: usize, out: &mut [u8], index: &mut [u8], filters: &mut [u8]) {
+    let mut x = [0u32; 1];
+    let mut y = [0u32; 1];
     if pair == 0 {
-        swap(out, index);
+        swap(out, index, &mut x, &mut y);
         return;
     }
     if pair == 1 {
-        swap(out, filters);
+        swap(out, filters, &mut x, &mut y);
         return;
     }
     if pair == 2 {
-        swap(index, filters);
+        swap(index, filters, &mut x, &mut y);
     }
 }
 
-// Two of the runs of numbers, by the number of the pair.
-fn exchange_numbers(
+// The restarts and another run of numbers.
+fn exchange_restarts(
     pair: usize,
     restarts: &mut [u32],
     index_restarts: &mut [u32],
     offsets: &mut [u32],
     hashes: &mut [u32],
 ) {
+    let mut a = [0u8; 1];
+    let mut b = [0u8; 1];
     if pair == 3 {
-        swap_numbers(restarts, index_restarts);
+        swap(&mut a, &mut b, restarts, index_restarts);
         return;
     }
     if pair == 4 {
-        swap_numbers(restarts, offsets);
+        swap(&mut a, &mut b, restarts, offsets);
         return;
     }
     if pair == 5 {
-        swap_numbers(restarts, hashes);
-        return;
+        swap(&mut a, &mut b, restarts, hashes);
     }
+}
+
+// Two of the others.
+fn exchange_others(
+    pair: usize,
+    index_restarts: &mut [u32],
+    offsets: &mut [u32],
+    hashes: &mut [u32],
+) {
+    let mut a = [0u8; 1];
+    let mut b = [0u8; 1];
     if pair == 6 {
-        swap_numbers(index_restarts, offsets);
+        swap(&mut a, &mut b, index_restarts, offsets);
         return;
     }
     if pair == 7 {
-        swap_numbers(index_restarts, hashes);
+        swap(&mut a, &mut b, index_restarts, hashes);
         return;
     }
     if pair == 8 {
-        swap_numbers(offsets, hashes);
+        swap(&mut a, &mut b, offsets, hashes);
     }
 }
 
@@ -255,6 +261,7 @@ pub fn change_numbers(
         return;
     }
     if op == b'X' {
-        exchange_numbers(pair, restarts, index_restarts, offsets, hashes);
+        exchange_restarts(pair, restarts, index_restarts, offsets, hashes);
+        exchange_others(pair, index_restarts, offsets, hashes);
     }
 }

@@ -1,4 +1,4 @@
--- A run filled. The invariant: it keeps its length.
+-- Two runs filled. The invariant: both keep their lengths.
 use Prim.Native.Nat.{_-_}
 use mathlib.Core.Path.{_≡_}
 use lib.ListN.{length}
@@ -7,10 +7,14 @@ use Rattle.replay.proofs.runs.fill.Statement.{statement}
 use Rattle.replay.proofs.runs.fill.Tie as tie
 
 abbrev Inv-loop : tie.InvT-loop
-Inv-loop s₀ pattern i₀ s i = length s ≡ length s₀
+Inv-loop bytes₀ pattern numbers₀ mark end i₀ bytes numbers i =
+    (length bytes ≡ length bytes₀) × (length numbers ≡ length numbers₀)
 
 abbrev μ-loop : tie.MeasureT-loop
-μ-loop s₀ pattern i₀ s i = length s₀ - i
+μ-loop bytes₀ pattern numbers₀ mark end i₀ bytes numbers i = end - i
+
+longer-requires : tie.Need-longer-requires Inv-loop μ-loop
+longer-requires c κs = search needs
 
 loop-holds : tie.Need-loop-holds Inv-loop μ-loop
 loop-holds c = search needs
@@ -20,6 +24,12 @@ cast-store c = search needs
 
 store-requires : tie.Need-store-requires Inv-loop μ-loop
 store-requires c κs = search needs
+
+cast-store-number : tie.Need-cast-store-number Inv-loop μ-loop
+cast-store-number c = search needs
+
+store-number-requires : tie.Need-store-number-requires Inv-loop μ-loop
+store-number-requires c κs = search needs
 
 add-i : tie.Need-add-i Inv-loop μ-loop
 add-i c = search needs
@@ -33,6 +43,9 @@ loop-again c = search needs
 same-length : tie.Need-same-length Inv-loop μ-loop
 same-length c = search needs
 
+same-length-2 : tie.Need-same-length-2 Inv-loop μ-loop
+same-length-2 c = search needs
+
 returns : tie.Need-returns Inv-loop μ-loop
 returns c = search needs
 
@@ -42,11 +55,15 @@ fill-spec =
     (tie.spec
     Inv-loop
     μ-loop
+    longer-requires
     loop-holds
     cast-store
     store-requires
+    cast-store-number
+    store-number-requires
     add-i
     loop-less
     loop-again
     same-length
+    same-length-2
     returns)

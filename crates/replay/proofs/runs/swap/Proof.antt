@@ -1,4 +1,4 @@
--- Two runs exchanged. The invariant: both keep their lengths.
+-- Runs exchanged. The invariant: all keep their lengths.
 use Prim.Native.Nat.{_-_}
 use mathlib.Core.Path.{_≡_}
 use lib.ListN.{length}
@@ -7,16 +7,23 @@ use Rattle.replay.proofs.runs.swap.Statement.{statement}
 use Rattle.replay.proofs.runs.swap.Tie as tie
 
 abbrev Inv-loop : tie.InvT-loop
-Inv-loop a₀ b₀ i₀ a b i = (length a ≡ length a₀) × (length b ≡ length b₀)
+Inv-loop a₀ b₀ x₀ y₀ end i₀ a b x y i =
+    (length a ≡ length a₀) × (length b ≡ length b₀) × (length x ≡ length x₀) × (length y ≡ length y₀)
 
 abbrev μ-loop : tie.MeasureT-loop
-μ-loop a₀ b₀ i₀ a b i = length a₀ - i
+μ-loop a₀ b₀ x₀ y₀ end i₀ a b x y i = end - i
+
+longer-requires : tie.Need-longer-requires Inv-loop μ-loop
+longer-requires c κs = search needs
 
 loop-holds : tie.Need-loop-holds Inv-loop μ-loop
 loop-holds c = search needs
 
 swap-at-requires : tie.Need-swap-at-requires Inv-loop μ-loop
 swap-at-requires c κs = search needs
+
+swap-number-at-requires : tie.Need-swap-number-at-requires Inv-loop μ-loop
+swap-number-at-requires c κs = search needs
 
 add-i : tie.Need-add-i Inv-loop μ-loop
 add-i c = search needs
@@ -33,6 +40,12 @@ same-length c = search needs
 same-length-2 : tie.Need-same-length-2 Inv-loop μ-loop
 same-length-2 c = search needs
 
+same-length-3 : tie.Need-same-length-3 Inv-loop μ-loop
+same-length-3 c = search needs
+
+same-length-4 : tie.Need-same-length-4 Inv-loop μ-loop
+same-length-4 c = search needs
+
 returns : tie.Need-returns Inv-loop μ-loop
 returns c = search needs
 
@@ -42,11 +55,15 @@ swap-spec =
     (tie.spec
     Inv-loop
     μ-loop
+    longer-requires
     loop-holds
     swap-at-requires
+    swap-number-at-requires
     add-i
     loop-less
     loop-again
     same-length
     same-length-2
+    same-length-3
+    same-length-4
     returns)
