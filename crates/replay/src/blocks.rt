@@ -180,8 +180,17 @@ fn next(s: &[u8], at: usize, b: &[u8]) {
     found(b, &key, r);
 }
 
+// The first entry of a walk, or the one after a place.
+pub fn reached(b: &[u8], at: usize, n: usize, key: &mut [u8]) -> Found {
+    if n == 0 {
+        rows::first(b, key)
+    } else {
+        rows::by_place(b, at, Which::After, key)
+    }
+}
+
 // One entry of a walk, shown if it is among the first six.
-fn visit(b: &[u8], f: Found, key: &[u8], n: usize) -> Walked {
+pub fn visit(b: &[u8], f: Found, key: &[u8], n: usize) -> Walked {
     match f {
         Found::Entry {
             start,
@@ -199,25 +208,13 @@ fn visit(b: &[u8], f: Found, key: &[u8], n: usize) -> Walked {
                 sum: 0,
             }
         }
-        Found::None => walk::ended(0),
-        Found::NoPlace => walk::ended(0),
+        Found::None => walk::nowhere(0),
+        Found::NoPlace => walk::nowhere(0),
         Found::Bad => {
             show::say(b" bad");
-            walk::ended(0)
+            walk::nowhere(0)
         }
     }
-}
-
-pub fn walk_first(b: &[u8]) -> Walked {
-    let mut key = [0xee_u8; 1032];
-    let f = rows::first(b, &mut key);
-    visit(b, f, &key, 0)
-}
-
-pub fn walk_next(b: &[u8], at: usize, n: usize) -> Walked {
-    let mut key = [0xee_u8; 1032];
-    let f = rows::by_place(b, at, Which::After, &mut key);
-    visit(b, f, &key, n)
 }
 
 // Whether what is found lies in the block.

@@ -2,6 +2,7 @@
 use crate::fields::front;
 use crate::show;
 use crate::state;
+use crate::tables;
 use crate::walk;
 use crate::walk::Over;
 use crate::walk::Walked;
@@ -74,42 +75,20 @@ fn with_entry(sum: u32, t: &[u8], key: &[u8], e: Entry) -> u32 {
 
 fn met(sum: u32, t: &[u8], key: &[u8], e: Entry) -> Walked {
     look(t, key, e);
-    let place = e.place;
-    Walked {
-        more: true,
-        index: place.index,
-        entry: place.entry,
-        sum: with_entry(sum, t, key, e),
-    }
+    tables::going(e, with_entry(sum, t, key, e))
 }
 
 // One entry of a walk.
-fn visit(sum: u32, t: &[u8], key: &[u8], r: Sought) -> Walked {
+pub fn visit(sum: u32, t: &[u8], key: &[u8], r: Sought) -> Walked {
     match r {
         Sought::Refused(n) => {
             show::say(b" refused ");
             show::number64(n as u64);
-            walk::ended(sum)
+            walk::nowhere(sum)
         }
-        Sought::None => walk::ended(sum),
+        Sought::None => walk::nowhere(sum),
         Sought::Entry(e) => met(sum, t, front(key, e.key_len), e),
     }
-}
-
-pub fn walk_first(t: &[u8]) -> Walked {
-    let mut key = [0xee_u8; 1032];
-    let r = table_reader::seek(t, b"\0", 0x00ff_ffff_ffff_ffff, &mut key);
-    visit(0, t, &key, r)
-}
-
-pub fn walk_next(t: &[u8], w: Walked) -> Walked {
-    let mut key = [0xee_u8; 1032];
-    let place = Place {
-        index: w.index,
-        entry: w.entry,
-    };
-    let r = table_reader::step(t, place, &mut key);
-    visit(w.sum, t, &key, r)
 }
 
 pub fn table(t: &[u8]) {

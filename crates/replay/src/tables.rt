@@ -157,46 +157,47 @@ fn step(s: &[u8], at: usize, t: &[u8]) {
     sought(t, &key, r);
 }
 
-fn going(e: Entry) -> Walked {
+// The first entry of a walk, or the one after a place.
+pub fn reached(t: &[u8], w: Walked, n: usize, key: &mut [u8]) -> Sought {
+    if n == 0 {
+        table_reader::seek(t, b"\0", 0x00ff_ffff_ffff_ffff, key)
+    } else {
+        let place = Place {
+            index: w.index,
+            entry: w.entry,
+        };
+        table_reader::step(t, place, key)
+    }
+}
+
+pub fn going(e: Entry, sum: u32) -> Walked {
     let place = e.place;
     Walked {
         more: true,
         index: place.index,
         entry: place.entry,
-        sum: 0,
+        sum,
     }
 }
 
 // One entry of a walk, shown if it is among the first six.
-fn visit(t: &[u8], key: &[u8], r: Sought, n: usize) -> Walked {
+pub fn visit(t: &[u8], key: &[u8], r: Sought, n: usize) -> Walked {
     match r {
         Sought::Refused(x) => {
             refused(key, x);
-            walk::ended(0)
+            walk::nowhere(0)
         }
         Sought::None => {
             show::kept(key);
-            walk::ended(0)
+            walk::nowhere(0)
         }
         Sought::Entry(e) => {
             if n < 6 {
                 entry(t, key, e);
             }
-            going(e)
+            going(e, 0)
         }
     }
-}
-
-pub fn walk_first(t: &[u8]) -> Walked {
-    let mut key = [0xee_u8; 1032];
-    let r = table_reader::seek(t, b"\0", 0x00ff_ffff_ffff_ffff, &mut key);
-    visit(t, &key, r, 0)
-}
-
-pub fn walk_next(t: &[u8], index: usize, start: usize, n: usize) -> Walked {
-    let mut key = [0xee_u8; 1032];
-    let r = step_with(t, index, start, &mut key, 1032);
-    visit(t, &key, r, n)
 }
 
 // Whether an entry's value lies in the table, and only its key was written to the key buffer.
@@ -245,9 +246,9 @@ fn may_find(t: &[u8], key: &[u8], r: Found) -> bool {
 
 fn onward(r: Sought) -> Walked {
     match r {
-        Sought::Refused(_) => walk::ended(0),
-        Sought::None => walk::ended(0),
-        Sought::Entry(e) => going(e),
+        Sought::Refused(_) => walk::nowhere(0),
+        Sought::None => walk::nowhere(0),
+        Sought::Entry(e) => going(e, 0),
     }
 }
 

@@ -19,7 +19,8 @@ pub struct Walked {
     pub sum: u32,
 }
 
-pub fn ended(sum: u32) -> Walked {
+// No place, before the first entry or after the last.
+pub fn nowhere(sum: u32) -> Walked {
     Walked {
         more: false,
         index: 0,
@@ -28,25 +29,28 @@ pub fn ended(sum: u32) -> Walked {
     }
 }
 
-fn first(over: Over, s: &[u8]) -> Walked {
-    match over {
-        Over::Block => blocks::walk_first(s),
-        Over::Table => tables::walk_first(s),
-        Over::Finished => finished::walk_first(s),
-    }
-}
-
+// The entry of a number: the first, or the one after a place.
 fn next(over: Over, s: &[u8], w: Walked, n: usize) -> Walked {
+    let mut key = [0xee_u8; 1032];
     match over {
-        Over::Block => blocks::walk_next(s, w.entry, n),
-        Over::Table => tables::walk_next(s, w.index, w.entry, n),
-        Over::Finished => finished::walk_next(s, w),
+        Over::Block => {
+            let f = blocks::reached(s, w.entry, n, &mut key);
+            blocks::visit(s, f, &key, n)
+        }
+        Over::Table => {
+            let r = tables::reached(s, w, n, &mut key);
+            tables::visit(s, &key, r, n)
+        }
+        Over::Finished => {
+            let r = tables::reached(s, w, n, &mut key);
+            finished::visit(w.sum, s, &key, r)
+        }
     }
 }
 
 // All entries: how many there are, and the end.
 pub fn walk(over: Over, s: &[u8]) -> Walked {
-    let mut w = first(over, s);
+    let mut w = next(over, s, nowhere(0), 0);
     let mut n: usize = 0;
     while n < 65536 && w.more {
         n = n + 1;

@@ -10,8 +10,11 @@ Inv-loop over s w₀ n₀ t4 w n = Unit {0}
 abbrev μ-loop : tie.MeasureT-loop
 μ-loop over s w₀ n₀ t4 w n = 65536 - n
 
-first-requires : tie.Need-first-requires Inv-loop μ-loop
-first-requires c κs = search needs
+nowhere-requires : tie.Need-nowhere-requires Inv-loop μ-loop
+nowhere-requires c κs = search needs
+
+next-requires : tie.Need-next-requires Inv-loop μ-loop
+next-requires c κs = search needs
 
 loop-holds : tie.Need-loop-holds Inv-loop μ-loop
 loop-holds c = search needs
@@ -19,8 +22,8 @@ loop-holds c = search needs
 add-n : tie.Need-add-n Inv-loop μ-loop
 add-n c = search needs
 
-next-requires : tie.Need-next-requires Inv-loop μ-loop
-next-requires c κs = search needs
+next-requires-2 : tie.Need-next-requires-2 Inv-loop μ-loop
+next-requires-2 c κs = search needs
 
 loop-less : tie.Need-loop-less Inv-loop μ-loop
 loop-less c = search needs
@@ -46,10 +49,11 @@ walk-spec =
     (tie.spec
     Inv-loop
     μ-loop
-    first-requires
+    nowhere-requires
+    next-requires
     loop-holds
     add-n
-    next-requires
+    next-requires-2
     loop-less
     loop-again
     slice-aggregate-say
