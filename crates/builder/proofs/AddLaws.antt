@@ -36,7 +36,7 @@ use Rattle.builder.proofs.TraceLaws.{refusalOf, lengths-of, start-lengt
 pub record PutRuns (s : Builder) (key word value : List ℕ) (r r′ : Runs) : Type 0 where
   pub mid : Runs
   pub cut : ClosedRuns (cutOf s) s (indexKey (midOf s key)) r mid
-  pub entered : EnteredRuns (midOf s key) key word value (mid .out) (r′ .out) (mid .restarts) (r′ .restarts) (mid .hashes) (r′ .hashes)
+  pub entered : EnteredRuns (midOf s key .pending) (midOf s key .written) (midOf s key .waiting) key word value (mid .out) (r′ .out) (mid .restarts) (r′ .restarts) (mid .hashes) (r′ .hashes)
   pub index : r′ .index ≡ mid .index
   pub filters : r′ .filters ≡ mid .filters
   pub indexRestarts : r′ .indexRestarts ≡ mid .indexRestarts
@@ -78,12 +78,14 @@ module _ (s : Builder) (l : Lengths) (key word value : List ℕ) (r : Runs) wher
 
   pub put-done : {p : Plan} → DecidedIs s l key (length value) p → p .answer ≡ 0 → {out₁ index₁ filters₁ indexRestarts₁ offsets₁ out₂ restarts₂ hashes₂ : List ℕ}
       → ClosedOut (p .cut) s (r .out) out₁ (r .restarts)
-      → ClosedIndex (p .cut) s (take (p .mid .indexed .len) (p .mid .indexed .last)) (r .index) index₁ (r .indexRestarts) indexRestarts₁
+      → ClosedIndex (p .cut) s (take (p .next .indexed .len) (p .next .indexed .last)) (r .index) index₁ (r .indexRestarts) indexRestarts₁
       → ClosedFilters (p .cut) s (r .filters) filters₁ (r .offsets) offsets₁ (r .hashes)
-      → EnteredRuns (p .mid) key word value out₁ out₂ (r .restarts) restarts₂ (r .hashes) hashes₂
+      → EnteredRuns (p .pending) (p .next .written) (p .waiting) key word value out₁ out₂ (r .restarts) restarts₂ (r .hashes) hashes₂
       → PutIs s l key word value r (seven out₂ index₁ filters₁ restarts₂ indexRestarts₁ offsets₁ hashes₂) (record { answer = AnswerCase.Ok; state = p .next })
   put-done {p} h z {out₁} {index₁} {filters₁} {indexRestarts₁} {offsets₁} o i f e =
-      let c : ClosedRuns (p .cut) s (indexKey (p .mid)) r (seven out₁ index₁ filters₁ (r .restarts) indexRestarts₁ offsets₁ (r .hashes)) =
+      let x : indexKey (p .next) ≡ indexKey (midOf s key) = ap indexKey (h .next z) ∙ (unfold indexKey nextOf enteredState in refl) in
+      let w : p .next .written ≡ midOf s key .written = ap (λ (n : Builder). n .written) (h .next z) ∙ (unfold nextOf enteredState in refl) in
+      let c : ClosedRuns (p .cut) s (indexKey (p .next)) r (seven out₁ index₁ filters₁ (r .restarts) indexRestarts₁ offsets₁ (r .hashes)) =
       unfold indexKey in record { out = o; index = i; filters = f; restarts = refl; hashes = refl } in
       record {
         number = p .answer;
@@ -92,7 +94,7 @@ module _ (s : Builder) (l : Lengths) (key word value : List ℕ) (r : Runs) wher
         decided = h .answer;
         kept = λ n. absurd (n z);
         state = h .next;
-        wrote = λ q. record { mid = _; cut = rw (h .mid z, h .cut z) at c; entered = rw (h .mid z) at e; index = refl; filters = refl; indexRestarts = refl; offsets = refl };
+        wrote = λ q. record { mid = _; cut = rw (x, h .cut z) at c; entered = rw (h .pending z, w, h .waiting z) at e; index = refl; filters = refl; indexRestarts = refl; offsets = refl };
       }
 
 -- ---- the trace

@@ -10,6 +10,7 @@ use lib.ListN.{length, length-append, length-take}
 use borrow.Author.Tests.{leb-true, ltb-true, eq-eqb, ne-eqb}
 use Rattle.codec.proofs.Prelude.{test, both}
 use Rattle.keys.specs.Order.{bytesBelow, userOf, lastTag, userSep, separator, below}
+use Rattle.block_builder.specs.declared.block_builder.BlockBuilder.{BlockBuilder}
 use Rattle.block_builder.specs.Builder.{newBuilder}
 use Rattle.table.specs.Options.{optionsFit}
 use Rattle.table.specs.Runs.{roomOf}
@@ -163,17 +164,17 @@ module _ (s : Builder) (l : Lengths) where
 
 -- ---- all of it
 
-module _ (s : Builder) (l : Lengths) (key : List ℕ) (v : ℕ) (m n : Builder) where
-  decided-not : {a : ℕ} → (a ≡ 4) ⊎ (a ≡ 5) → (Whole (nextOf s key v) → a ≡ decideOf s l key v) → DecidedIs s l key v (record { answer = a; cut = false; mid = m; next = n })
+module _ (s : Builder) (l : Lengths) (key : List ℕ) (v : ℕ) (b : BlockBuilder) (n : Builder) where
+  decided-not : {a : ℕ} → (a ≡ 4) ⊎ (a ≡ 5) → (Whole (nextOf s key v) → a ≡ decideOf s l key v) → DecidedIs s l key v (record { answer = a; cut = false; pending = b; waiting = 0; next = n })
   decided-not {a} k e =
       let some : a ≡ 0 → ⊥ = λ z. ⊎-elim (λ x. omega arith) (λ x. omega arith) k in
-      record { kind = inr k; answer = e; cut = λ z. absurd (some z); mid = λ z. absurd (some z); next = λ z. absurd (some z); small = λ z. absurd (some z) }
+      record { kind = inr k; answer = e; cut = λ z. absurd (some z); pending = λ z. absurd (some z); waiting = λ z. absurd (some z); next = λ z. absurd (some z); small = λ z. absurd (some z) }
 
-  pub decided-large : {t : Bool} → t ≡ small s → t ≡ false → DecidedIs s l key v (record { answer = 5; cut = false; mid = m; next = n })
+  pub decided-large : {t : Bool} → t ≡ small s → t ≡ false → DecidedIs s l key v (record { answer = 5; cut = false; pending = b; waiting = 0; next = n })
   unfolding decideOf
   decided-large e f = decided-not (inr refl) (λ w. rw (sym e ∙ f))
 
-  pub decided-low : {t u : Bool} → t ≡ small s → t ≡ true → u ≡ aboveLast s key → u ≡ false → DecidedIs s l key v (record { answer = 4; cut = false; mid = m; next = n })
+  pub decided-low : {t u : Bool} → t ≡ small s → t ≡ true → u ≡ aboveLast s key → u ≡ false → DecidedIs s l key v (record { answer = 4; cut = false; pending = b; waiting = 0; next = n })
   unfolding decideOf
   decided-low e f g h = decided-not (inl refl) (λ w. rw (sym e ∙ f, sym g ∙ h))
 
@@ -186,10 +187,10 @@ module _ (s : Builder) (l : Lengths) (key : List ℕ) (v : ℕ) (m n : Builder) 
     fits-is : Whole (nextOf s key v) → fitsOf (nextOf s key v) l ≡ r
     fits-is w = ap (λ (x : Builder). fitsOf x l) (sym next-is) ∙ sym (k (rw next-is w))
 
-    pub decided-full : r ≡ false → DecidedIs s l key v (record { answer = 5; cut = false; mid = m; next = n })
+    pub decided-full : r ≡ false → DecidedIs s l key v (record { answer = 5; cut = false; pending = b; waiting = 0; next = n })
     unfolding decideOf
     decided-full j = decided-not (inr refl) (λ w. rw (sym e ∙ f, sym g ∙ h, fits-is w ∙ j))
 
-    pub decided-ok : Small s → {c : Bool} → c ≡ cutOf s → r ≡ true → DecidedIs s l key v (record { answer = 0; cut = c; mid = m′; next = n′ })
+    pub decided-ok : Small s → {c : Bool} → c ≡ cutOf s → r ≡ true → DecidedIs s l key v (record { answer = 0; cut = c; pending = m′ .pending; waiting = m′ .waiting; next = n′ })
     unfolding decideOf
-    decided-ok i c j = record { kind = inl refl; cut = λ z. c; answer = λ w. rw (sym e ∙ f, sym g ∙ h, fits-is w ∙ j); mid = λ z. p; next = λ z. next-is; small = λ z. i }
+    decided-ok i c j = record { kind = inl refl; cut = λ z. c; answer = λ w. rw (sym e ∙ f, sym g ∙ h, fits-is w ∙ j); pending = λ z. ap (λ (x : Builder). x .pending) p; waiting = λ z. ap (λ (x : Builder). x .waiting) p; next = λ z. next-is; small = λ z. i }

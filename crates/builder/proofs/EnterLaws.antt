@@ -195,7 +195,7 @@ module _ {o : Options} {c : Building} {s : Builder} (h : Counted o c s) (a : Add
         hashes-room = omega (arith, f .hashes, z .hashes)
 
     -- all seven
-    pub entered-all : (r₂ : Runs) → EnteredRuns s (keyOf a) (a .word) (a .value) (r₁ .out) (r₂ .out) (r₁ .restarts) (r₂ .restarts) (r₁ .hashes) (r₂ .hashes)
+    pub entered-all : (r₂ : Runs) → EnteredRuns (s .pending) (s .written) (s .waiting) (keyOf a) (a .word) (a .value) (r₁ .out) (r₂ .out) (r₁ .restarts) (r₂ .restarts) (r₁ .hashes) (r₂ .hashes)
         → r₂ .index ≡ r₁ .index → r₂ .filters ≡ r₁ .filters → r₂ .indexRestarts ≡ r₁ .indexRestarts → r₂ .offsets ≡ r₁ .offsets → r₂ ≡ overlaid (between o (with c a)) r
     unfolding between held filtersNow wait
     entered-all r₂ g e₁ e₂ e₃ e₄ =

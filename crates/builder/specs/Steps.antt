@@ -180,7 +180,8 @@ pub record DecidedIs (s : Builder) (l : Lengths) (key : List ℕ) (value : ℕ) 
   pub kind : (p .answer ≡ 0) ⊎ ((p .answer ≡ 4) ⊎ (p .answer ≡ 5))
   pub answer : Whole (nextOf s key value) → p .answer ≡ decideOf s l key value
   pub cut : p .answer ≡ 0 → p .cut ≡ cutOf s
-  pub mid : p .answer ≡ 0 → p .mid ≡ midOf s key
+  pub pending : p .answer ≡ 0 → p .pending ≡ midOf s key .pending
+  pub waiting : p .answer ≡ 0 → p .waiting ≡ midOf s key .waiting
   pub next : p .answer ≡ 0 → p .next ≡ nextOf s key value
   pub small : p .answer ≡ 0 → Small s
 

@@ -55,11 +55,11 @@ pub record ClosedFilters (closing : Bool) (s : Builder) (filters filters′ offs
 
 -- ---- an entry
 
--- an entry written into the open block, and its word's hash behind those that wait
-pub record EnteredRuns (s : Builder) (key word value out out′ restarts restarts′ hashes hashes′ : List ℕ) : Type 0 where
+-- an entry written into a block that starts at a place of out, and its word's hash behind those that wait
+pub record EnteredRuns (b : BlockBuilder) (at waiting : ℕ) (key word value out out′ restarts restarts′ hashes hashes′ : List ℕ) : Type 0 where
   pub added : Added
-  pub entry : AddedIs (s .pending) (s .written) out out′ restarts restarts′ key value added
-  pub hash : hashes′ ≡ put hashes (s .waiting) (hash word ∷ [])
+  pub entry : AddedIs b at out out′ restarts restarts′ key value added
+  pub hash : hashes′ ≡ put hashes waiting (hash word ∷ [])
 
 -- ---- the end
 

@@ -640,12 +640,13 @@ fn has_room(s: Builder, l: Lengths) -> bool
     finished_size(s) <= room(l.out)
 }
 
-// What is decided of an addition: 0 or the refusal's number, whether there is a cut, the state after it, and the state with the
-// entry.
+// What is decided of an addition: 0 or the refusal's number, whether there is a cut, the open block and how many hashes wait
+// after it, and the state with the entry.
 struct Plan {
     answer: u32,
     cut: bool,
-    mid: Builder,
+    pending: BlockBuilder,
+    waiting: usize,
     next: Builder,
 }
 
@@ -654,11 +655,13 @@ fn decide(s: Builder, l: Lengths, key: &[u8], value_len: usize) -> Plan
     requires { ⌜ Ready s l (length (now key)) «value_len» ⌝ }
     ensures { λ r. ⌜ DecidedIs s l (now (key .entry)) «value_len» r ⌝ }
 {
+    let open = s.pending;
     if !is_small(s) {
         return Plan {
             answer: 5,
             cut: false,
-            mid: s,
+            pending: open,
+            waiting: 0,
             next: s,
         };
     }
@@ -666,7 +669,8 @@ fn decide(s: Builder, l: Lengths, key: &[u8], value_len: usize) -> Plan
         return Plan {
             answer: 4,
             cut: false,
-            mid: s,
+            pending: open,
+            waiting: 0,
             next: s,
         };
     }
@@ -677,14 +681,17 @@ fn decide(s: Builder, l: Lengths, key: &[u8], value_len: usize) -> Plan
         return Plan {
             answer: 5,
             cut: false,
-            mid: s,
+            pending: open,
+            waiting: 0,
             next: s,
         };
     }
+    let pending = mid.pending;
     Plan {
         answer: 0,
         cut: cut,
-        mid: mid,
+        pending: pending,
+        waiting: mid.waiting,
         next: next,
     }
 }
@@ -800,9 +807,11 @@ fn push_hash(hashes: &mut [u32], n: usize, x: u32)
     }
 }
 
-// Writes an entry into the open block, and its word's hash behind those that wait.
+// Writes an entry into a block that starts at a place of out, and its word's hash behind those that wait.
 fn write_entry(
-    s: Builder,
+    pending: BlockBuilder,
+    at: usize,
+    waiting: usize,
     key: &[u8],
     word: &[u8],
     value: &[u8],
@@ -810,11 +819,10 @@ fn write_entry(
     restarts: &mut [u32],
     hashes: &mut [u32],
 )
-    ensures { λ _. ⌜ EnteredRuns s (now (key .entry)) (now (word .entry)) (now (value .entry)) (now (out .entry)) (now (out .exit)) (now (restarts .entry)) (now (restarts .exit)) (now (hashes .entry)) (now (hashes .exit)) ⌝ }
+    ensures { λ _. ⌜ EnteredRuns pending at waiting (now (key .entry)) (now (word .entry)) (now (value .entry)) (now (out .entry)) (now (out .exit)) (now (restarts .entry)) (now (restarts .exit)) (now (hashes .entry)) (now (hashes .exit)) ⌝ }
 {
-    let pending = s.pending;
-    pending.add(out, s.written, restarts, key, value);
-    push_hash(hashes, s.waiting, filter_block::filter::bloom_hash(word));
+    pending.add(out, at, restarts, key, value);
+    push_hash(hashes, waiting, filter_block::filter::bloom_hash(word));
 }
 
 // The internal key of an addition goes to the front of key; how many bytes it has.
@@ -1071,13 +1079,23 @@ impl Builder {
             };
         }
         let cut = p.cut;
-        let mid = p.mid;
-        let last = mid.indexed;
+        let next = p.next;
+        let last = next.indexed;
         close_out(cut, self, out, restarts);
         close_index(cut, self, &last.last, last.len, index, index_restarts);
         close_filters(cut, self, filters, offsets, hashes);
-        write_entry(mid, &key[..n], word, value, out, restarts, hashes);
-        let next = p.next;
+        let pending = p.pending;
+        write_entry(
+            pending,
+            next.written,
+            p.waiting,
+            &key[..n],
+            word,
+            value,
+            out,
+            restarts,
+            hashes,
+        );
         Added {
             answer: Answer::Ok,
             state: next,

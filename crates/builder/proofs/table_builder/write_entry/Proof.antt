@@ -27,11 +27,11 @@ same-length-3 c = search needs
 
 returns : tie.Need-returns
 returns c =
-    let a = c .before .before .before .before .before .before .before .before .before .before .before .before .before .before .before .before .before .before .before .args in
+    let a = c .before .before .before .before .before .before .before .before .before .before .before .before .before .before .before .before .before .before .args in
     record {
       added = c .before .before .before .before .before .before .before .before .before .add .result;
       entry = c .before .before .before .before .before .before .before .before .before .add .ensures;
-      hash = c .before .before .push-hash .ensures ∙ ap (λ (x : ℕ). put (a .hashes .now) (a .s .waiting) (x ∷ [])) (c .before .before .before .bloom-hash .ensures);
+      hash = c .before .before .push-hash .ensures ∙ ap (λ (x : ℕ). put (a .hashes .now) (a .waiting) (x ∷ [])) (c .before .before .before .bloom-hash .ensures);
     }
 
 pub write-entry-spec : {M : Type 1} → statement M
