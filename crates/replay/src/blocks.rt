@@ -99,8 +99,7 @@ fn build(s: &[u8], at: usize, out: &mut [u8]) -> usize {
 
 fn load(s: &[u8], at: usize, out: &mut [u8]) -> usize {
     let f = fields::field(s, at, out);
-    show::say(b" ");
-    show::number(f.len);
+    show::spaced(f.len);
     f.len
 }
 
@@ -134,8 +133,7 @@ fn kinds(b: &[u8]) {
 
 // An entry: where it starts, its key, where its value starts, and the value.
 fn entry(b: &[u8], key: &[u8], start: usize, key_len: usize, value_at: usize, value_len: usize) {
-    show::say(b" ");
-    show::number(start);
+    show::spaced(start);
     show::say(b" ");
     show::key(key, key_len);
     show::say(b" at ");
@@ -144,17 +142,11 @@ fn entry(b: &[u8], key: &[u8], start: usize, key_len: usize, value_at: usize, va
     show::part(b, value_at, value_len);
 }
 
-// The key buffer has to be as it was where no entry is given.
-fn nothing(word: &[u8], key: &[u8]) {
-    show::say(word);
-    show::kept(key);
-}
-
 fn found(b: &[u8], key: &[u8], f: Found) {
     match f {
-        Found::None => nothing(b" none", key),
-        Found::NoPlace => nothing(b" no place", key),
-        Found::Bad => nothing(b" bad", key),
+        Found::None => show::nothing(b" none", key),
+        Found::NoPlace => show::nothing(b" no place", key),
+        Found::Bad => show::nothing(b" bad", key),
         Found::Entry {
             start,
             key_len,
@@ -283,10 +275,8 @@ fn told(rest: &[u8], r: EntryRead) {
             value_at,
             value_len,
         } => {
-            show::say(b" ");
-            show::number(shared);
-            show::say(b" ");
-            show::number(key_len);
+            show::spaced(shared);
+            show::spaced(key_len);
             show::say(b" at ");
             show::number(value_at);
             show::say(b" ");

@@ -4,6 +4,8 @@ use crate::fields;
 use crate::fields::front;
 use crate::finished;
 use crate::runs;
+use crate::runs::BYTES;
+use crate::runs::NUMBERS;
 use crate::runs::Seven;
 use crate::show;
 use crate::state;
@@ -232,7 +234,29 @@ fn nothing(b: Builder) -> Done {
     }
 }
 
-// The call that a line names: start with options, finish, or add of a word, an edition, a kind and a value.
+// An addition: how long its word and its value are, its edition and its kind.
+struct Addition {
+    word: usize,
+    edition: u64,
+    kind: u8,
+    value: usize,
+}
+
+// The addition at a place of the line, its word and its value at the front of two runs.
+fn said(s: &[u8], at: usize, w: &mut [u8], v: &mut [u8]) -> Addition {
+    let word = fields::field(s, at, w);
+    let edition = long(s, word.next);
+    let kind = fields::number(s, edition.next);
+    let value = fields::field(s, kind.next, v);
+    Addition {
+        word: word.len,
+        edition: edition.value,
+        kind: (kind.value % 256) as u8,
+        value: value.len,
+    }
+}
+
+// The call that a line names: start with options, finish, or add.
 fn call(
     s: &[u8],
     at: usize,
@@ -278,10 +302,7 @@ fn call(
     }
     let mut w = [0u8; 1100];
     let mut v = [0u8; 33000];
-    let word = fields::field(s, at, &mut w);
-    let edition = long(s, word.next);
-    let kind = fields::number(s, edition.next);
-    let value = fields::field(s, kind.next, &mut v);
+    let a = said(s, at, &mut w, &mut v);
     let r = b.add(
         out,
         index,
@@ -290,10 +311,10 @@ fn call(
         index_restarts,
         offsets,
         hashes,
-        front(&w, word.len),
-        edition.value,
-        (kind.value % 256) as u8,
-        front(&v, value.len),
+        front(&w, a.word),
+        a.edition,
+        a.kind,
+        front(&v, a.value),
     );
     added(r)
 }
@@ -499,25 +520,54 @@ fn prepared(s: &[u8], at: usize, op: u8, rig: Rig) -> Rig {
     rig
 }
 
+// What a command does to the runs: a change of whole runs, or a call.
+fn act(
+    s: &[u8],
+    at: usize,
+    op: u8,
+    rig: Rig,
+    out: &mut [u8; BYTES],
+    index: &mut [u8; BYTES],
+    filters: &mut [u8; BYTES],
+    restarts: &mut [u32; NUMBERS],
+    index_restarts: &mut [u32; NUMBERS],
+    offsets: &mut [u32; NUMBERS],
+    hashes: &mut [u32; NUMBERS],
+) -> Done {
+    let pair = fields::number(s, at);
+    runs::change_bytes(op, pair.value, out, index, filters);
+    runs::change_numbers(op, pair.value, restarts, index_restarts, offsets, hashes);
+    lent(
+        s,
+        at,
+        op,
+        rig,
+        out,
+        index,
+        filters,
+        restarts,
+        index_restarts,
+        offsets,
+        hashes,
+    )
+}
+
 // Does what a line's command says, and tells it. The command 0 is none, and # starts with a rig of nothing.
 pub fn answer(
     s: &[u8],
     op: u8,
     rig: Rig,
-    out: &mut [u8],
-    index: &mut [u8],
-    filters: &mut [u8],
-    restarts: &mut [u32],
-    index_restarts: &mut [u32],
-    offsets: &mut [u32],
-    hashes: &mut [u32],
+    out: &mut [u8; BYTES],
+    index: &mut [u8; BYTES],
+    filters: &mut [u8; BYTES],
+    restarts: &mut [u32; NUMBERS],
+    index_restarts: &mut [u32; NUMBERS],
+    offsets: &mut [u32; NUMBERS],
+    hashes: &mut [u32; NUMBERS],
 ) -> Rig {
     let at = fields::after(0);
     let now = prepared(s, at, op, rig);
-    let pair = fields::number(s, at);
-    runs::change_bytes(op, pair.value, out, index, filters);
-    runs::change_numbers(op, pair.value, restarts, index_restarts, offsets, hashes);
-    let done = lent(
+    let done = act(
         s,
         at,
         op,

@@ -144,10 +144,8 @@ fn make(s: &[u8], at: usize) {
         ) {
             Made::NoRoom => show::say(b" no room"),
             Made::Filters { bytes, made } => {
-                show::say(b" ");
-                show::number(bytes);
-                show::say(b" ");
-                show::number(made);
+                show::spaced(bytes);
+                show::spaced(made);
                 finished(&filters, bytes, &offsets, made);
             }
         }

@@ -2,6 +2,7 @@
 use crate::fields;
 use crate::fields::front;
 use crate::show;
+use codec::put::Written;
 use keys::cmp;
 use keys::cmp::Ordering;
 use keys::key_types;
@@ -36,8 +37,7 @@ fn compare(s: &[u8], at: usize, op: u8) {
     let y = front(&b, fb.len);
     if op == b'c' {
         order(cmp::cmp(x, y));
-        show::say(b" ");
-        show::number(cmp::common_len(x, y));
+        show::spaced(cmp::common_len(x, y));
     } else {
         order(key_types::cmp_internal_key(x, y));
     }
@@ -69,8 +69,7 @@ fn parse(s: &[u8], at: usize) {
             sequence,
             kind: k,
         } => {
-            show::say(b" ");
-            show::number(user_len);
+            show::spaced(user_len);
             show::say(b" ");
             show::number64(sequence);
             kind(k);
@@ -78,69 +77,56 @@ fn parse(s: &[u8], at: usize) {
     }
 }
 
-fn build(s: &[u8], at: usize) {
+// Writes what a command asks for: an internal key, the separator of two words or of two keys, or a short word not below one.
+fn write(
+    op: u8,
+    run: &mut [u8],
+    at: usize,
+    x: &[u8],
+    y: &[u8],
+    sequence: u64,
+    kind: u8,
+) -> Written {
+    if op == b'k' {
+        return key_types::build_internal_key(run, at, x, sequence, kind);
+    }
+    if op == b'u' {
+        return cmp::find_shortest_sep(run, at, x, y);
+    }
+    if op == b's' {
+        return cmp::find_internal_sep(run, at, x, y);
+    }
+    cmp::find_short_succ(run, at, x)
+}
+
+// The same with room, and where it lacks a byte.
+fn written(op: u8, x: &[u8], y: &[u8], sequence: u64, kind: u8) {
+    let mut run = [0xee_u8; 1200];
+    let mut short = [0xee_u8; 1200];
+    let w = write(op, &mut run, 3, x, y, sequence, kind);
+    let place = show::one_short(1200, 3, w);
+    let v = write(op, &mut short, place, x, y, sequence, kind);
+    show::written(&run, 3, w);
+    if show::some(3, w) {
+        show::refused(&short, v);
+    }
+}
+
+// What is written of a word, an edition and a kind, or of two words.
+fn put(s: &[u8], at: usize, op: u8) {
     let mut a = [0u8; 1100];
+    let mut b = [0u8; 1100];
     let fa = fields::field(s, at, &mut a);
+    let fb = fields::field(s, fa.next, &mut b);
     let sequence = fields::number(s, fa.next);
     let k = fields::number(s, sequence.next);
-    let byte = (k.value % 256) as u8;
-    let word = front(&a, fa.len);
-    let mut run = [0xee_u8; 1200];
-    let w = key_types::build_internal_key(&mut run, 3, word, sequence.value as u64, byte);
-    show::written(&run, 3, w);
-    let mut short = [0xee_u8; 1200];
-    let place = show::one_short(1200, 3, w);
-    let v = key_types::build_internal_key(&mut short, place, word, sequence.value as u64, byte);
-    show::refused(&short, v);
-}
-
-fn separate(s: &[u8], at: usize) {
-    let mut a = [0u8; 1100];
-    let mut b = [0u8; 1100];
-    let fa = fields::field(s, at, &mut a);
-    let fb = fields::field(s, fa.next, &mut b);
-    let x = front(&a, fa.len);
-    let y = front(&b, fb.len);
-    let mut run = [0xee_u8; 1200];
-    let w = cmp::find_shortest_sep(&mut run, 3, x, y);
-    show::written(&run, 3, w);
-    let mut short = [0xee_u8; 1200];
-    let place = show::one_short(1200, 3, w);
-    let v = cmp::find_shortest_sep(&mut short, place, x, y);
-    if show::some(3, w) {
-        show::refused(&short, v);
-    }
-}
-
-fn separate_keys(s: &[u8], at: usize) {
-    let mut a = [0u8; 1100];
-    let mut b = [0u8; 1100];
-    let fa = fields::field(s, at, &mut a);
-    let fb = fields::field(s, fa.next, &mut b);
-    let x = front(&a, fa.len);
-    let y = front(&b, fb.len);
-    let mut run = [0xee_u8; 1200];
-    let w = cmp::find_internal_sep(&mut run, 3, x, y);
-    show::written(&run, 3, w);
-    let mut short = [0xee_u8; 1200];
-    let place = show::one_short(1200, 3, w);
-    let v = cmp::find_internal_sep(&mut short, place, x, y);
-    if show::some(3, w) {
-        show::refused(&short, v);
-    }
-}
-
-fn succeed(s: &[u8], at: usize) {
-    let mut a = [0u8; 1100];
-    let fa = fields::field(s, at, &mut a);
-    let x = front(&a, fa.len);
-    let mut run = [0xee_u8; 1200];
-    let w = cmp::find_short_succ(&mut run, 3, x);
-    show::written(&run, 3, w);
-    let mut short = [0xee_u8; 1200];
-    let place = show::one_short(1200, 3, w);
-    let v = cmp::find_short_succ(&mut short, place, x);
-    show::refused(&short, v);
+    written(
+        op,
+        front(&a, fa.len),
+        front(&b, fb.len),
+        sequence.value as u64,
+        (k.value % 256) as u8,
+    );
 }
 
 pub fn answer(s: &[u8], at: usize, op: u8) {
@@ -156,17 +142,5 @@ pub fn answer(s: &[u8], at: usize, op: u8) {
         parse(s, at);
         return;
     }
-    if op == b'k' {
-        build(s, at);
-        return;
-    }
-    if op == b'u' {
-        separate(s, at);
-        return;
-    }
-    if op == b's' {
-        separate_keys(s, at);
-        return;
-    }
-    succeed(s, at);
+    put(s, at, op);
 }

@@ -19,6 +19,8 @@ mod tables;
 mod walk;
 
 use input::Held;
+use runs::BYTES;
+use runs::NUMBERS;
 
 const CASES: u8 = 1;
 
@@ -111,15 +113,15 @@ fn left_after(left: usize, h: Held) -> usize
 
 // Answers line after line.
 fn all(
-    list: &mut [u8],
-    block: &mut [u8],
-    out: &mut [u8],
-    index: &mut [u8],
-    filters: &mut [u8],
-    restarts: &mut [u32],
-    index_restarts: &mut [u32],
-    offsets: &mut [u32],
-    hashes: &mut [u32],
+    list: &mut [u8; 65536],
+    block: &mut [u8; 65536],
+    out: &mut [u8; BYTES],
+    index: &mut [u8; BYTES],
+    filters: &mut [u8; BYTES],
+    restarts: &mut [u32; NUMBERS],
+    index_restarts: &mut [u32; NUMBERS],
+    offsets: &mut [u32; NUMBERS],
+    hashes: &mut [u32; NUMBERS],
 ) {
     let mut section = no_section();
     let mut rig = calls::no_rig();
@@ -148,13 +150,13 @@ fn all(
 fn main() {
     let mut list = [0u8; 65536];
     let mut block = [0u8; 65536];
-    let mut out = [0u8; 140000];
-    let mut index = [0u8; 140000];
-    let mut filters = [0u8; 140000];
-    let mut restarts = [0u32; 35000];
-    let mut index_restarts = [0u32; 35000];
-    let mut offsets = [0u32; 35000];
-    let mut hashes = [0u32; 35000];
+    let mut out = [0u8; BYTES];
+    let mut index = [0u8; BYTES];
+    let mut filters = [0u8; BYTES];
+    let mut restarts = [0u32; NUMBERS];
+    let mut index_restarts = [0u32; NUMBERS];
+    let mut offsets = [0u32; NUMBERS];
+    let mut hashes = [0u32; NUMBERS];
     all(
         &mut list,
         &mut block,

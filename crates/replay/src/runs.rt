@@ -2,6 +2,11 @@
 use crate::fields::front;
 use crate::show;
 
+// How long the runs are, those of bytes and those of numbers.
+pub const BYTES: usize = 140000;
+
+pub const NUMBERS: usize = 35000;
+
 // A checksum of each run.
 pub struct Seven {
     pub out: u32,
@@ -51,13 +56,13 @@ pub fn no_sums() -> Seven {
 pub fn sums(
     bytes: usize,
     numbers: usize,
-    out: &[u8],
-    index: &[u8],
-    filters: &[u8],
-    restarts: &[u32],
-    index_restarts: &[u32],
-    offsets: &[u32],
-    hashes: &[u32],
+    out: &[u8; BYTES],
+    index: &[u8; BYTES],
+    filters: &[u8; BYTES],
+    restarts: &[u32; NUMBERS],
+    index_restarts: &[u32; NUMBERS],
+    offsets: &[u32; NUMBERS],
+    hashes: &[u32; NUMBERS],
 ) -> Seven {
     Seven {
         out: codec::crc::extend(0, front(out, bytes)),
@@ -124,7 +129,7 @@ fn fill(bytes: &mut [u8], pattern: u8, numbers: &mut [u32], mark: u32) {
 }
 
 // Each run of bytes filled with a pattern of its own.
-fn lay_bytes(out: &mut [u8], index: &mut [u8], filters: &mut [u8]) {
+fn lay_bytes(out: &mut [u8; BYTES], index: &mut [u8; BYTES], filters: &mut [u8; BYTES]) {
     let mut none = [0u32; 1];
     fill(out, 0x11, &mut none, 0);
     fill(index, 0x53, &mut none, 0);
@@ -132,10 +137,10 @@ fn lay_bytes(out: &mut [u8], index: &mut [u8], filters: &mut [u8]) {
 }
 
 fn lay_numbers(
-    restarts: &mut [u32],
-    index_restarts: &mut [u32],
-    offsets: &mut [u32],
-    hashes: &mut [u32],
+    restarts: &mut [u32; NUMBERS],
+    index_restarts: &mut [u32; NUMBERS],
+    offsets: &mut [u32; NUMBERS],
+    hashes: &mut [u32; NUMBERS],
 ) {
     let mut none = [0u8; 1];
     fill(&mut none, 0, restarts, 0xa000_0000);
@@ -176,7 +181,12 @@ fn swap(a: &mut [u8], b: &mut [u8], x: &mut [u32], y: &mut [u32]) {
 }
 
 // Two of the runs of bytes, by the number of the pair.
-fn exchange_bytes(pair: usize, out: &mut [u8], index: &mut [u8], filters: &mut [u8]) {
+fn exchange_bytes(
+    pair: usize,
+    out: &mut [u8; BYTES],
+    index: &mut [u8; BYTES],
+    filters: &mut [u8; BYTES],
+) {
     let mut x = [0u32; 1];
     let mut y = [0u32; 1];
     if pair == 0 {
@@ -195,10 +205,10 @@ fn exchange_bytes(pair: usize, out: &mut [u8], index: &mut [u8], filters: &mut [
 // The restarts and another run of numbers.
 fn exchange_restarts(
     pair: usize,
-    restarts: &mut [u32],
-    index_restarts: &mut [u32],
-    offsets: &mut [u32],
-    hashes: &mut [u32],
+    restarts: &mut [u32; NUMBERS],
+    index_restarts: &mut [u32; NUMBERS],
+    offsets: &mut [u32; NUMBERS],
+    hashes: &mut [u32; NUMBERS],
 ) {
     let mut a = [0u8; 1];
     let mut b = [0u8; 1];
@@ -218,9 +228,9 @@ fn exchange_restarts(
 // Two of the others.
 fn exchange_others(
     pair: usize,
-    index_restarts: &mut [u32],
-    offsets: &mut [u32],
-    hashes: &mut [u32],
+    index_restarts: &mut [u32; NUMBERS],
+    offsets: &mut [u32; NUMBERS],
+    hashes: &mut [u32; NUMBERS],
 ) {
     let mut a = [0u8; 1];
     let mut b = [0u8; 1];
@@ -238,7 +248,13 @@ fn exchange_others(
 }
 
 // The commands on whole runs: W fills each, X exchanges the two of a pair.
-pub fn change_bytes(op: u8, pair: usize, out: &mut [u8], index: &mut [u8], filters: &mut [u8]) {
+pub fn change_bytes(
+    op: u8,
+    pair: usize,
+    out: &mut [u8; BYTES],
+    index: &mut [u8; BYTES],
+    filters: &mut [u8; BYTES],
+) {
     if op == b'W' {
         lay_bytes(out, index, filters);
         return;
@@ -251,10 +267,10 @@ pub fn change_bytes(op: u8, pair: usize, out: &mut [u8], index: &mut [u8], filte
 pub fn change_numbers(
     op: u8,
     pair: usize,
-    restarts: &mut [u32],
-    index_restarts: &mut [u32],
-    offsets: &mut [u32],
-    hashes: &mut [u32],
+    restarts: &mut [u32; NUMBERS],
+    index_restarts: &mut [u32; NUMBERS],
+    offsets: &mut [u32; NUMBERS],
+    hashes: &mut [u32; NUMBERS],
 ) {
     if op == b'W' {
         lay_numbers(restarts, index_restarts, offsets, hashes);

@@ -24,6 +24,12 @@ pub fn number(n: usize) {
     io::print_decimal(STDOUT_FILENO, n as u64);
 }
 
+// A number after a blank.
+pub fn spaced(n: usize) {
+    say(b" ");
+    number(n);
+}
+
 pub fn number64(n: u64) {
     io::print_decimal(STDOUT_FILENO, n);
 }
@@ -134,6 +140,12 @@ pub fn kept(run: &[u8]) {
     if untouched(run) {} else {
         say(b" changed");
     }
+}
+
+// The key buffer has to be as it was where no entry is given.
+pub fn nothing(word: &[u8], run: &[u8]) {
+    say(word);
+    kept(run);
 }
 
 // A key at the front of a run of 1,032 that was full of ee: the rest has to be as it was.

@@ -74,17 +74,12 @@ pub fn sum(b: Builder) -> u32 {
     with_number(f, flag(b.finished))
 }
 
-fn shown(n: usize) {
-    show::say(b" ");
-    show::number(n);
-}
-
 // A block's numbers, and its last key.
 fn tell_block(b: BlockBuilder) {
-    shown(b.interval);
-    shown(b.bytes);
-    shown(b.restarts);
-    shown(b.since);
+    show::spaced(b.interval);
+    show::spaced(b.bytes);
+    show::spaced(b.restarts);
+    show::spaced(b.since);
     show::say(b" ");
     let last = b.last;
     show::part(&last, 0, b.len);
@@ -92,19 +87,19 @@ fn tell_block(b: BlockBuilder) {
 
 fn tell_options(o: Options) {
     let f = o.filter;
-    shown(o.interval);
-    shown(o.block_size);
-    shown(number_of(f));
+    show::spaced(o.interval);
+    show::spaced(o.block_size);
+    show::spaced(number_of(f));
 }
 
 fn tell_lengths(l: Lengths) {
-    shown(l.out);
-    shown(l.index);
-    shown(l.filters);
-    shown(l.restarts);
-    shown(l.index_restarts);
-    shown(l.offsets);
-    shown(l.hashes);
+    show::spaced(l.out);
+    show::spaced(l.index);
+    show::spaced(l.filters);
+    show::spaced(l.restarts);
+    show::spaced(l.index_restarts);
+    show::spaced(l.offsets);
+    show::spaced(l.hashes);
 }
 
 // All that a state holds but what lies behind the last keys.
@@ -115,13 +110,13 @@ pub fn tell(b: Builder) {
     let indexed = b.indexed;
     tell_options(options);
     tell_lengths(lengths);
-    shown(b.written);
+    show::spaced(b.written);
     tell_block(pending);
     tell_block(indexed);
-    shown(b.filtered);
-    shown(b.made);
-    shown(b.waiting);
-    shown(flag(b.finished));
+    show::spaced(b.filtered);
+    show::spaced(b.made);
+    show::spaced(b.waiting);
+    show::spaced(flag(b.finished));
 }
 
 // Options with a field set: 0 interval, 1 block size, 2 filter.

@@ -40,10 +40,8 @@ fn verdict(t: &[u8]) {
 // An entry: its place, its key, where its value starts, and the value.
 fn entry(t: &[u8], key: &[u8], e: Entry) {
     let place = e.place;
-    show::say(b" ");
-    show::number(place.index);
-    show::say(b" ");
-    show::number(place.entry);
+    show::spaced(place.index);
+    show::spaced(place.entry);
     show::say(b" ");
     show::key(key, e.key_len);
     show::say(b" at ");
@@ -58,15 +56,10 @@ fn refused(key: &[u8], n: u32) {
     show::kept(key);
 }
 
-fn nothing(word: &[u8], key: &[u8]) {
-    show::say(word);
-    show::kept(key);
-}
-
 fn sought(t: &[u8], key: &[u8], r: Sought) {
     match r {
         Sought::Refused(n) => refused(key, n),
-        Sought::None => nothing(b" none", key),
+        Sought::None => show::nothing(b" none", key),
         Sought::Entry(e) => entry(t, key, e),
     }
 }
@@ -79,7 +72,7 @@ fn deleted(t: &[u8], key: &[u8], e: Entry) {
 fn found(t: &[u8], key: &[u8], r: Found) {
     match r {
         Found::Refused(n) => refused(key, n),
-        Found::Absent => nothing(b" absent", key),
+        Found::Absent => show::nothing(b" absent", key),
         Found::Entry(e) => entry(t, key, e),
         Found::Deleted(e) => deleted(t, key, e),
     }
