@@ -141,14 +141,14 @@ fn answered(before: SalevoniState, b: Builder, answer: Answer) -> SalevoniBuilt
 }
 
 // What finish answers: the table's size too.
-fn ended(before: SalevoniState, after: SalevoniState, outcome: Outcome) -> SalevoniBuilt
-    ensures { λ r. ⌜ r ≡ ended before after outcome ⌝ }
+fn ended(before: SalevoniState, b: Builder, outcome: Outcome) -> SalevoniBuilt
+    ensures { λ r. ⌜ r ≡ ended before (stateOut b) outcome ⌝ }
 {
     match outcome {
         Outcome::Size(n) => SalevoniBuilt {
             answer: 0,
             size: n,
-            state: after,
+            state: state_out(b),
         },
         Outcome::Refused(n) => SalevoniBuilt {
             answer: n,
@@ -182,8 +182,7 @@ fn finished_out(before: SalevoniState, x: Finished) -> SalevoniBuilt
 {
     let outcome = x.answer;
     let b = x.state;
-    let after = state_out(b);
-    ended(before, after, outcome)
+    ended(before, b, outcome)
 }
 
 // Starts a table in seven runs; nothing is written.

@@ -1,7 +1,5 @@
 -- `exports::building::answered` meets its contract.
-use mathlib.Core.Path.{sym, ap, _∙_}
-use Rattle.builder.specs.declared.table_builder.Answer.the-variants as AnswerCase
-use Rattle.exports.specs.declared.building.SalevoniState.{SalevoniState}
+use mathlib.Core.Path.{sym, ap}
 use Rattle.exports.specs.Building.{answered}
 use borrow.Author.Needs.{needs}
 use Rattle.exports.proofs.building.answered.Statement.{statement}
@@ -18,7 +16,7 @@ enum-known-answer c = search needs
 
 returns : tie.Need-returns
 unfolding answered
-returns c = ap (λ (t : SalevoniState). answered (c .before .before .before .args .before) t AnswerCase.Ok) (c .state-out .ensures) ∙ ap (answered _ _) (sym (c .before .enum-told .given .1))
+returns c = rw (c .state-out .ensures) (ap (answered _ _) (sym (c .before .enum-told .given .1)))
 
 returns-2 : tie.Need-returns-2
 unfolding answered

@@ -8,16 +8,19 @@ use Rattle.exports.proofs.building.ended.Tie as tie
 enum-known-outcome : tie.Need-enum-known-outcome
 enum-known-outcome c = search needs
 
+state-out-requires : tie.Need-state-out-requires
+state-out-requires c κs = search needs
+
 enum-known-outcome-2 : tie.Need-enum-known-outcome-2
 enum-known-outcome-2 c = search needs
 
 returns : tie.Need-returns
 unfolding ended
-returns c = ap (ended _ _) (sym (c .before .outcome .given .1))
+returns c = rw (c .state-out .ensures) (ap (ended _ _) (sym (c .before .before .outcome .given .1)))
 
 returns-2 : tie.Need-returns-2
 unfolding ended
 returns-2 c = ap (ended _ _) (sym (c .before .outcome2 .given .1))
 
 pub ended-spec : {M : Type 1} → statement M
-ended-spec = tie.close (tie.spec enum-known-outcome enum-known-outcome-2 returns returns-2)
+ended-spec = tie.close (tie.spec enum-known-outcome state-out-requires enum-known-outcome-2 returns returns-2)

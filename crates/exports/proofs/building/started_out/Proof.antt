@@ -1,7 +1,4 @@
 -- `exports::building::started_out` meets its contract.
-use mathlib.Core.Path.{ap, _∙_}
-use Rattle.exports.specs.Building.{stateOut, answered}
-use Rattle.exports.specs.declared.building.SalevoniState.{SalevoniState}
 use borrow.Author.Needs.{needs}
 use Rattle.exports.proofs.building.started_out.Statement.{statement}
 use Rattle.exports.proofs.building.started_out.Tie as tie
@@ -13,9 +10,7 @@ answered-requires : tie.Need-answered-requires
 answered-requires c κs = search needs
 
 returns : tie.Need-returns
-returns c =
-    let s = c .before .before .before .args in
-    c .answered .ensures ∙ ap (λ (t : SalevoniState). answered t (stateOut (s .x .state)) (s .x .answer)) (c .before .state-out .ensures)
+returns c = rw (c .before .state-out .ensures) at (c .answered .ensures)
 
 pub started-out-spec : {M : Type 1} → statement M
 started-out-spec = tie.close (tie.spec state-out-requires answered-requires returns)
