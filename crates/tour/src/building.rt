@@ -8,6 +8,11 @@ use builder::table_builder::Options;
 use builder::table_builder::Outcome;
 use filter_block::filter::Filter;
 
+// How long the runs are, those of bytes and those of numbers.
+pub const BYTES: usize = 4096;
+
+const NUMBERS: usize = 1024;
+
 // An entry without cells is a deletion.
 fn kind(cells: &[u8]) -> u8 {
     if cells.len() == 0 { 0 } else { 1 }
@@ -28,13 +33,13 @@ fn tell(line: &[u8], a: Answer) {
 fn add(
     line: &[u8],
     state: Builder,
-    out: &mut [u8],
-    index: &mut [u8],
-    filters: &mut [u8],
-    restarts: &mut [u32],
-    index_restarts: &mut [u32],
-    offsets: &mut [u32],
-    hashes: &mut [u32],
+    out: &mut [u8; BYTES],
+    index: &mut [u8; BYTES],
+    filters: &mut [u8; BYTES],
+    restarts: &mut [u32; NUMBERS],
+    index_restarts: &mut [u32; NUMBERS],
+    offsets: &mut [u32; NUMBERS],
+    hashes: &mut [u32; NUMBERS],
 ) -> Builder {
     if !list::is(line, b'+') {
         return state;
@@ -63,13 +68,13 @@ fn add(
 fn add_all(
     s: &[u8],
     begun: Builder,
-    out: &mut [u8],
-    index: &mut [u8],
-    filters: &mut [u8],
-    restarts: &mut [u32],
-    index_restarts: &mut [u32],
-    offsets: &mut [u32],
-    hashes: &mut [u32],
+    out: &mut [u8; BYTES],
+    index: &mut [u8; BYTES],
+    filters: &mut [u8; BYTES],
+    restarts: &mut [u32; NUMBERS],
+    index_restarts: &mut [u32; NUMBERS],
+    offsets: &mut [u32; NUMBERS],
+    hashes: &mut [u32; NUMBERS],
 ) -> usize {
     let mut state = begun;
     let mut at: usize = 0;
@@ -120,16 +125,16 @@ fn finished(o: Outcome) -> usize {
 }
 
 // Every entry is a restart, so that no key hangs on the one before it; a block is cut when it is over 320 bytes.
-pub fn build(s: &[u8], out: &mut [u8]) -> usize {
+pub fn build(s: &[u8], out: &mut [u8; BYTES]) -> usize {
     say::say(b"The list has ");
     say::number(list::count(s, b'+'));
     say::say(b" entries.\n");
-    let mut index = [0u8; 4096];
-    let mut filters = [0u8; 4096];
-    let mut restarts = [0u32; 1024];
-    let mut index_restarts = [0u32; 1024];
-    let mut offsets = [0u32; 1024];
-    let mut hashes = [0u32; 1024];
+    let mut index = [0u8; BYTES];
+    let mut filters = [0u8; BYTES];
+    let mut restarts = [0u32; NUMBERS];
+    let mut index_restarts = [0u32; NUMBERS];
+    let mut offsets = [0u32; NUMBERS];
+    let mut hashes = [0u32; NUMBERS];
     let options = Options {
         block_size: 320,
         interval: 1,

@@ -7,10 +7,11 @@ mod list;
 mod reading;
 mod say;
 
+use building::BYTES;
 use list::part;
 
 // What is read of the finished table, and then of damaged copies.
-fn visit(s: &[u8], table: &mut [u8], size: usize) {
+fn visit(s: &[u8], table: &mut [u8; BYTES], size: usize) {
     let t = part(table, 0, size);
     reading::check(t);
     reading::questions(s, t);
@@ -18,12 +19,17 @@ fn visit(s: &[u8], table: &mut [u8], size: usize) {
     damage::three(table, size);
 }
 
+// A table is built of the list and read, and then damaged copies of it.
+fn tour(s: &[u8]) {
+    let mut table = [0u8; BYTES];
+    let size = building::build(s, &mut table);
+    if 0 < size {
+        visit(s, &mut table, size);
+    }
+}
+
 fn main() {
     let mut input = [0u8; 4096];
-    let mut table = [0u8; 4096];
     let n = io::read_full(0, &mut input);
-    let size = building::build(&input[0..n], &mut table);
-    if 0 < size {
-        visit(&input[0..n], &mut table, size);
-    }
+    tour(&input[0..n]);
 }

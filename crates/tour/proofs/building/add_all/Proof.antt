@@ -1,14 +1,12 @@
--- Adds so many lines at most; every run stays as long as it is.
+-- Adds so many lines at most.
 use Prim.Native.Nat.{_-_}
-use mathlib.Core.Path.{_≡_, _∙_}
-use lib.ListN.{length}
 use borrow.Author.Needs.{needs}
 use Rattle.tour.proofs.building.add_all.Statement.{statement}
 use Rattle.tour.proofs.building.add_all.Tie as tie
 
 abbrev Inv-loop : tie.InvT-loop
 Inv-loop s out₀ index₀ filters₀ restarts₀ index-restarts₀ offsets₀ hashes₀ state₀ at₀ n₀ out index filters restarts index-restarts offsets hashes state at n =
-    (length out ≡ length out₀) × (length index ≡ length index₀) × (length filters ≡ length filters₀) × (length restarts ≡ length restarts₀) × (length index-restarts ≡ length index-restarts₀) × (length offsets ≡ length offsets₀) × (length hashes ≡ length hashes₀)
+    Unit {0}
 
 abbrev μ-loop : tie.MeasureT-loop
 μ-loop s out₀ index₀ filters₀ restarts₀ index-restarts₀ offsets₀ hashes₀ state₀ at₀ n₀ out index filters restarts index-restarts offsets hashes state at n =
@@ -33,37 +31,13 @@ loop-less : tie.Need-loop-less Inv-loop μ-loop
 loop-less c = search needs
 
 loop-again : tie.Need-loop-again Inv-loop μ-loop
-loop-again c =
-    let i = c .before .before .before .before .before .before .before .before .before .before .before .before .before .before .before .before .before .before .before .before .before .before .before .before .before .loop .inv in
-    let k = c .before .before .before .before .before .before .before .before .before .before .before .before .before .before .before .add .kept in
-    (k .1 .1 .0 ∙ i .0, k .1 .1 .1 .0 ∙ i .1, k .1 .1 .1 .1 .0 ∙ i .2, k .1 .1 .1 .1 .1 .0 ∙ i .3, k .1 .1 .1 .1 .1 .1 .0 ∙ i .4, k .1 .1 .1 .1 .1 .1 .1 .0 ∙ i .5, k .1 .1 .1 .1 .1 .1 .1 .1 .0 ∙ i .6)
+loop-again c = search needs
 
 finish-requires : tie.Need-finish-requires Inv-loop μ-loop
 finish-requires c κs = search needs
 
 finished-requires : tie.Need-finished-requires Inv-loop μ-loop
 finished-requires c κs = search needs
-
-same-length : tie.Need-same-length Inv-loop μ-loop
-same-length c = search needs
-
-same-length-2 : tie.Need-same-length-2 Inv-loop μ-loop
-same-length-2 c = search needs
-
-same-length-3 : tie.Need-same-length-3 Inv-loop μ-loop
-same-length-3 c = search needs
-
-same-length-4 : tie.Need-same-length-4 Inv-loop μ-loop
-same-length-4 c = search needs
-
-same-length-5 : tie.Need-same-length-5 Inv-loop μ-loop
-same-length-5 c = search needs
-
-same-length-6 : tie.Need-same-length-6 Inv-loop μ-loop
-same-length-6 c = search needs
-
-same-length-7 : tie.Need-same-length-7 Inv-loop μ-loop
-same-length-7 c = search needs
 
 returns : tie.Need-returns Inv-loop μ-loop
 returns c = search needs
@@ -83,11 +57,4 @@ add-all-spec =
     loop-again
     finish-requires
     finished-requires
-    same-length
-    same-length-2
-    same-length-3
-    same-length-4
-    same-length-5
-    same-length-6
-    same-length-7
     returns)
