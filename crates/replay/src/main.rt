@@ -19,6 +19,7 @@ mod tables;
 mod walk;
 
 use input::Held;
+use keys::cmp::same;
 use runs::BYTES;
 use runs::NUMBERS;
 
@@ -40,16 +41,12 @@ fn byte(s: &[u8], at: usize) -> u8 {
     if at < s.len() { s[at] } else { 0 }
 }
 
-fn is(s: &[u8], line: &[u8]) -> bool {
-    s.len() == line.len() && keys::cmp::common_len(s, line) == s.len()
-}
-
 // What the lines of the section are that a line starts, 0 for one of another name.
 fn kind_of(s: &[u8]) -> u8 {
-    if is(s, b"# cases\n") || is(s, b"# original\n") {
+    if same(s, b"# cases\n") || same(s, b"# original\n") {
         return CASES;
     }
-    if is(s, b"# builder\n") {
+    if same(s, b"# builder\n") {
         return CALLS;
     }
     0
