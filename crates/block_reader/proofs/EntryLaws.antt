@@ -8,7 +8,7 @@ use native.Mathlib.Nat.{zero-add}
 use native.Mathlib.Omega.{arith}
 use lib.Dec.{leb, leb→le}
 use lib.ListN.{length, take, drop, getD, length-append, length-take, length-drop}
-use lib.Seq.{take-at, take-take, drop-drop, drop-cons}
+use lib.Seq.{length-take-le, take-at, take-take, drop-drop, drop-cons}
 use borrow.Author.Tests.{leb-true, le-leb, lt-leb}
 use Rattle.codec.specs.declared.varint.VarintRead.the-variants as VarintCase
 use Rattle.codec.specs.Answers.{varintAnswer}
@@ -370,6 +370,13 @@ pub taken : (d : List ℕ) (at : ℕ) (k : List ℕ) (m : ℕ) {k′ : List ℕ}
 taken d at k m {k′} {sh} {n} {a} {v} w room said left same =
     let s : Step d at (take m k) 1032 sh n a v = step-read d at (take m k) w (rw room at said) in
     record { step = s; key = key-stands k n (s .reads) (s .keySize) (omega (arith, s .room)) left; room = same ∙ room }
+
+-- its key lies at the front of the buffer
+pub taken-fits : {d : List ℕ} {at : ℕ} {k : List ℕ} {m : ℕ} {k′ : List ℕ} {sh n a v : ℕ} → Taken d at k m k′ sh n a v → n ≤ length k′
+taken-fits t = omega (arith, t .room, t .step .room)
+
+pub taken-length : {d : List ℕ} {at : ℕ} {k : List ℕ} {m : ℕ} {k′ : List ℕ} {sh n a v : ℕ} → Taken d at k m k′ sh n a v → length (take n k′) ≡ n
+taken-length {k′ = k′} {n = n} t = length-take-le n k′ (taken-fits t)
 
 -- ---- an entry that is read after no key
 

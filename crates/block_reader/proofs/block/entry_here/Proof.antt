@@ -1,13 +1,11 @@
 -- `block_reader::block::entry_here` meets its contract.
-use Prim.Native.Nat.{ℕ, _≤_}
+use Prim.Native.Nat.{ℕ}
 use mathlib.Core.Path.{sym, ap, _∙_}
 use mathlib.Core.List.{List}
 use native.Mathlib.Omega.{arith}
-use lib.ListN.{length}
-use lib.Seq.{length-take-le}
 use Rattle.blocks.specs.Search.{firstIn}
 use Rattle.blocks.proofs.ReadLaws.{entry-start}
-use Rattle.block_reader.proofs.EntryLaws.{Taken, taken}
+use Rattle.block_reader.proofs.EntryLaws.{Taken, taken, taken-fits, taken-length}
 use Rattle.block_reader.proofs.WalkLaws.{read-end, no-read, taken-first}
 use Rattle.block_reader.proofs.FoundLaws.{told-none, told-bad, told-entry}
 use borrow.Author.Needs.{needs}
@@ -32,9 +30,6 @@ entry c =
     let r = c .before .before .before .before .before .entry-at in
     taken (start c .args .d .now) (start c .args .at) (start c .args .buf .now) (start c .args .len) (start c .pre .0) (start c .pre .1) (sym (r .ensures .0) ∙ c .before .key-len .given .1) (r .ensures .1) (r .kept .1 .1 .0)
 
-room : (c : K) → n c ≤ length (buf′ c)
-room c = omega (arith, entry c .room, entry c .step .room)
-
 returns : tie.Need-returns
 unfolding firstIn
 returns c = told-none _ _ _ firstIn _ (λ es read. ap firstIn (read-end _ _ _ read (c .if1 .taken)))
@@ -49,10 +44,10 @@ enum-known-key-len : tie.Need-enum-known-key-len
 enum-known-key-len c = search needs
 
 slice-reshare-prefix-hand : tie.Need-slice-reshare-prefix-hand
-slice-reshare-prefix-hand c = room (c .before)
+slice-reshare-prefix-hand c = taken-fits (entry (c .before))
 
 slice-aggregate-hand : tie.Need-slice-aggregate-hand
-slice-aggregate-hand c = let k = c .before .before in sym (length-take-le (n k) (buf′ k) (room k))
+slice-aggregate-hand c = let k = c .before .before in sym (taken-length (entry k))
 
 hand-requires : tie.Need-hand-requires
 hand-requires c κs = search needs
@@ -77,7 +72,7 @@ unfolding firstIn
 returns-3 c =
     let k = c .before .before .before .before .before in
     let t = entry k in
-    told-entry _ _ _ firstIn _ (t .step .here) (entry-start _ _ _ (t .step .reads)) (sym (t .key)) (t .step .valueAt) (t .step .valueSize) (t .step .within) (omega (arith, length-take-le (n k) (buf′ k) (room k), t .step .room))
+    told-entry _ _ _ firstIn _ (t .step .here) (entry-start _ _ _ (t .step .reads)) (sym (t .key)) (t .step .valueAt) (t .step .valueSize) (t .step .within) (omega (arith, taken-length (entry k), t .step .room))
     (λ es read. ap firstIn (taken-first t es read .is)) (c .before .before .hand .ensures)
 
 pub entry-here-spec : {M : Type 1} → statement M

@@ -1,11 +1,10 @@
 -- `block_reader::block::pass` meets its contract.
-use Prim.Native.Nat.{ℕ, _≤_}
+use Prim.Native.Nat.{ℕ}
 use mathlib.Core.Path.{sym, _∙_}
 use mathlib.Core.List.{List}
 use native.Mathlib.Omega.{arith}
-use lib.ListN.{length, drop}
-use lib.Seq.{length-take-le}
-use Rattle.block_reader.proofs.EntryLaws.{Taken, taken}
+use lib.ListN.{drop}
+use Rattle.block_reader.proofs.EntryLaws.{Taken, taken, taken-fits, taken-length}
 use Rattle.block_reader.proofs.LayoutLaws.{numbers-length}
 use Rattle.block_reader.proofs.FilledLaws.{pass-none, pass-wrong, pass-past, pass-mark, pass-shares}
 use borrow.Author.Needs.{needs}
@@ -46,9 +45,6 @@ entry c =
     let r = c .before .before .before .before .before .entry-at in
     taken (D c) (start c .args .at) (buffer c) (start c .args .key-len) (omega (arith, start c .pre .1)) (start c .pre .2) (sym (r .ensures .0) ∙ c .before .shared .given .1) (r .ensures .1) (r .kept .1 .1 .0)
 
-room : (c : K) → n c ≤ length (key′ c)
-room c = omega (arith, entry c .room, entry c .step .room)
-
 entry-at-requires : tie.Need-entry-at-requires
 entry-at-requires c κs = search needs
 
@@ -62,10 +58,10 @@ add-next : tie.Need-add-next
 add-next c = omega (arith, entry c .step .within)
 
 slice-reshare-prefix-in-limits : tie.Need-slice-reshare-prefix-in-limits
-slice-reshare-prefix-in-limits c = room c
+slice-reshare-prefix-in-limits c = taken-fits (entry c)
 
 slice-aggregate-in-limits : tie.Need-slice-aggregate-in-limits
-slice-aggregate-in-limits c = sym (length-take-le (n (c .before)) (key′ (c .before)) (room (c .before)))
+slice-aggregate-in-limits c = sym (taken-length (entry (c .before)))
 
 sub-in-limits : tie.Need-sub-in-limits
 sub-in-limits c = search needs

@@ -1,16 +1,15 @@
 -- `block_reader::block::scan` meets its contract. The loop's invariant: the same is said of the entries from `at` on as of all, and the key buffer is as
 -- it was.
-use Prim.Native.Nat.{ℕ, _-_, _≤_}
+use Prim.Native.Nat.{ℕ, _-_}
 use mathlib.Core.Path.{_≡_, refl, sym, ap, _∙_}
 use mathlib.Core.List.{List}
 use mathlib.Core.Option.{some}
 use native.Mathlib.Omega.{arith}
 use lib.ListN.{length, take}
-use lib.Seq.{length-take-le}
 use Rattle.keys.specs.Order.{Point, isLess, pointOf, byPoint}
 use Rattle.blocks.specs.Search.{seekIn}
 use Rattle.blocks.proofs.ReadLaws.{entry-start}
-use Rattle.block_reader.proofs.EntryLaws.{Taken, taken}
+use Rattle.block_reader.proofs.EntryLaws.{Taken, taken, taken-fits, taken-length}
 use Rattle.block_reader.proofs.WalkLaws.{Scanning, Same, scan-start, scan-bad, scan-end, scan-more, scan-hit}
 use Rattle.block_reader.proofs.FoundLaws.{told-bad, told-none, told-entry}
 use Rattle.block_reader.proofs.SeekLaws.{seek-here, seek-past, seek-end}
@@ -52,9 +51,6 @@ entry c =
     let r = c .before .before .before .before .entry-at in
     taken (start l .args .d .now) (l .loop .at) (l .loop .buf) (l .loop .len) (l .loop .inv .0 .within) (l .loop .inv .0 .room) (sym (r .ensures .0) ∙ c .before .key-len .given .1) (r .ensures .1) (r .kept .1 .1 .0)
 
-room : (c : K) → n c ≤ length (buf′ c)
-room c = omega (arith, entry c .room, entry c .step .room)
-
 -- its key is compared as it stands in the buffer
 order : (c : K) → isLess (byPoint (pointOf (entry c .step .here .key)) (point (lp c))) ≡ isLess (byPoint (pointOf (take (n c) (buf′ c))) (point (lp c)))
 order c = ap (λ (q : List ℕ). isLess (byPoint (pointOf q) (point (lp c)))) (sym (entry c .key))
@@ -83,10 +79,10 @@ enum-known-key-len : tie.Need-enum-known-key-len Inv-loop μ-loop
 enum-known-key-len c = search needs
 
 array-share-prefix-buf : tie.Need-array-share-prefix-buf Inv-loop μ-loop
-array-share-prefix-buf c = room c
+array-share-prefix-buf c = taken-fits (entry c)
 
 slice-aggregate-is-below : tie.Need-slice-aggregate-is-below Inv-loop μ-loop
-slice-aggregate-is-below c = let k = c .before in sym (length-take-le (n k) (buf′ k) (room k))
+slice-aggregate-is-below c = let k = c .before in sym (taken-length (entry k))
 
 is-below-requires : tie.Need-is-below-requires Inv-loop μ-loop
 is-below-requires c κs = search needs
@@ -105,10 +101,10 @@ loop-again c =
     (scan-more (l .loop .inv .0) t (Same (seekIn (point l))) (λ es rest same. same ∙ seek-past (point l) (t .step .here) rest (order k ∙ sym (c .before .is-below .ensures) ∙ c .if1 .taken)), l .loop .inv .1)
 
 array-share-prefix-buf-2 : tie.Need-array-share-prefix-buf-2 Inv-loop μ-loop
-array-share-prefix-buf-2 c = room (c .before .before .before .before)
+array-share-prefix-buf-2 c = taken-fits (entry (c .before .before .before .before))
 
 slice-aggregate-hand : tie.Need-slice-aggregate-hand Inv-loop μ-loop
-slice-aggregate-hand c = let k = c .before .before .before .before .before in sym (length-take-le (n k) (buf′ k) (room k))
+slice-aggregate-hand c = let k = c .before .before .before .before .before in sym (taken-length (entry k))
 
 hand-requires : tie.Need-hand-requires Inv-loop μ-loop
 hand-requires c κs = search needs
@@ -123,7 +119,7 @@ returns-2 c =
     let k = c .before .before .before .before .before .before .before .before in
     let l = lp k in
     let t = entry k in
-    told-entry _ _ _ (seekIn (point l)) _ (t .step .here) (entry-start _ _ _ (t .step .reads)) (sym (t .key)) (t .step .valueAt) (t .step .valueSize) (t .step .within) (omega (arith, length-take-le (n k) (buf′ k) (room k), t .step .room))
+    told-entry _ _ _ (seekIn (point l)) _ (t .step .here) (entry-start _ _ _ (t .step .reads)) (sym (t .key)) (t .step .valueAt) (t .step .valueSize) (t .step .within) (omega (arith, taken-length (entry k), t .step .room))
     (scan-hit (l .loop .inv .0) t (λ es. seekIn (point l) es ≡ some (some (t .step .here))) (λ es rest same. same ∙ seek-here (point l) (t .step .here) rest (order k ∙ sym (c .before .before .before .before .before .before .is-below .ensures) ∙ c .before .before .before .before .before .if1 .left)))
     (rw (l .loop .inv .1) at (c .before .before .hand .ensures))
 

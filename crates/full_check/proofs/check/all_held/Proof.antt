@@ -1,15 +1,14 @@
 -- `full_check::check::all_held` meets its contract. The loop's invariant: the test of the entries from `at` on comes to the test of all.
-use Prim.Native.Nat.{ℕ, _+_, _-_, _≤_}
+use Prim.Native.Nat.{ℕ, _+_, _-_}
 use mathlib.Core.Path.{_≡_, refl, sym, ap, _∙_}
 use mathlib.Core.Bool.{Bool, true, false}
 use mathlib.Core.List.{List}
 use native.Mathlib.Omega.{arith}
 use lib.ListN.{length}
-use lib.Seq.{length-take-le}
 use Rattle.keys.specs.Order.{userOf}
 use Rattle.blocks.specs.Block.{Entry, pairsOf}
 use Rattle.blocks.specs.Formed.{all}
-use Rattle.block_reader.proofs.EntryLaws.{Taken}
+use Rattle.block_reader.proofs.EntryLaws.{Taken, taken-fits, taken-length}
 use Rattle.block_reader.proofs.RestLaws.{rest-bad, rest-taken}
 use Rattle.block_reader.proofs.WalkLaws.{Scanning, Same, scan-start, scan-bad, scan-end, scan-more, scan-hit}
 use Rattle.filters.specs.Filter.{hash}
@@ -55,9 +54,6 @@ entry c =
     let r = c .before .before .before .before .read-entry in
     rest-taken (D l) (l .loop .at) (l .loop .key) (l .loop .len) (l .loop .inv .within) (l .loop .inv .room) (sym (r .ensures .0) ∙ c .before .key-len .given .1) (r .ensures .1) (r .kept .1 .0)
 
-room : (c : K) → n c ≤ length (key′ c)
-room c = omega (arith, entry c .room, entry c .step .room)
-
 abbrev F : L → List ℕ
 F l = l .before .before .before .args .filter .now
 
@@ -99,10 +95,10 @@ enum-known-key-len : tie.Need-enum-known-key-len Inv-loop μ-loop
 enum-known-key-len c = search needs
 
 array-share-prefix-key : tie.Need-array-share-prefix-key Inv-loop μ-loop
-array-share-prefix-key c = room c
+array-share-prefix-key c = taken-fits (entry c)
 
 slice-aggregate-may-hold : tie.Need-slice-aggregate-may-hold Inv-loop μ-loop
-slice-aggregate-may-hold c = let k = c .before in sym (length-take-le (n k) (key′ k) (room k))
+slice-aggregate-may-hold c = let k = c .before in sym (taken-length (entry k))
 
 may-hold-requires : tie.Need-may-hold-requires Inv-loop μ-loop
 may-hold-requires c κs = search needs

@@ -1,11 +1,10 @@
 -- `full_check::check::block_follows` meets its contract.
-use Prim.Native.Nat.{ℕ, _≤_}
+use Prim.Native.Nat.{ℕ}
 use mathlib.Core.Path.{refl, sym, _∙_}
 use mathlib.Core.List.{List}
 use native.Mathlib.Omega.{arith}
-use lib.ListN.{length, replicate}
-use lib.Seq.{length-take-le}
-use Rattle.block_reader.proofs.EntryLaws.{Taken, taken}
+use lib.ListN.{replicate}
+use Rattle.block_reader.proofs.EntryLaws.{Taken, taken, taken-fits, taken-length}
 use Rattle.full_check.proofs.KeyLaws.{first-none, first-some}
 use borrow.Author.Needs.{needs}
 use Rattle.full_check.proofs.check.block_follows.Statement.{statement}
@@ -29,9 +28,6 @@ entry c =
     let r = c .before .before .before .before .read-entry in
     taken (D c) 0 (replicate 1032 0) 0 (omega arith) refl (sym (r .ensures .0) ∙ c .before .key-len .given .1) (r .ensures .1) (r .kept .1 .0)
 
-room : (c : K) → n c ≤ length (key′ c)
-room c = omega (arith, entry c .room, entry c .step .room)
-
 slice-aggregate-read-entry : tie.Need-slice-aggregate-read-entry
 slice-aggregate-read-entry c = search needs
 
@@ -45,10 +41,10 @@ enum-known-key-len : tie.Need-enum-known-key-len
 enum-known-key-len c = search needs
 
 array-share-prefix-key : tie.Need-array-share-prefix-key
-array-share-prefix-key c = room c
+array-share-prefix-key c = taken-fits (entry c)
 
 slice-aggregate-key-follows : tie.Need-slice-aggregate-key-follows
-slice-aggregate-key-follows c = let k = c .before in sym (length-take-le (n k) (key′ k) (room k))
+slice-aggregate-key-follows c = let k = c .before in sym (taken-length (entry k))
 
 key-follows-requires : tie.Need-key-follows-requires
 key-follows-requires c κs = search needs

@@ -10,7 +10,7 @@ use lib.ListN.{length, take}
 use lib.Seq.{length-take-le}
 use Rattle.codec.specs.Varint.{Handle}
 use Rattle.blocks.specs.Block.{Pair, pairsOf}
-use Rattle.block_reader.proofs.EntryLaws.{Taken}
+use Rattle.block_reader.proofs.EntryLaws.{Taken, taken-fits, taken-length}
 use Rattle.block_reader.proofs.RestLaws.{rest-bad, rest-taken, value-lent}
 use Rattle.block_reader.proofs.WalkLaws.{Scanning, scan-start, scan-bad, scan-end, scan-more, scan-hit}
 use Rattle.table.specs.Checked.{Checked}
@@ -55,9 +55,6 @@ entry c =
     let l = lp c in
     let r = c .before .before .before .before .read-entry in
     rest-taken (D l) (l .loop .at) (l .loop .key) (l .loop .len) (l .loop .inv .0 .within) (l .loop .inv .0 .room) (sym (r .ensures .0) ∙ c .before .key-len .given .1) (r .ensures .1) (r .kept .1 .0)
-
-room : (c : K) → n c ≤ length (key′ c)
-room c = omega (arith, entry c .room, entry c .step .room)
 
 -- the table and the filter, and what the block before left
 abbrev T : L → List ℕ
@@ -145,10 +142,10 @@ slice-aggregate-data-at-2 : tie.Need-slice-aggregate-data-at-2 Inv-loop μ-loop
 slice-aggregate-data-at-2 c = let l = lp (c .before .before .before .before) in sym (l .loop .inv .2)
 
 array-share-prefix-key : tie.Need-array-share-prefix-key Inv-loop μ-loop
-array-share-prefix-key c = room (c .before .before .before .before)
+array-share-prefix-key c = taken-fits (entry (c .before .before .before .before))
 
 slice-aggregate-data-at-3 : tie.Need-slice-aggregate-data-at-3 Inv-loop μ-loop
-slice-aggregate-data-at-3 c = let k = c .before .before .before .before .before in sym (length-take-le (n k) (key′ k) (room k))
+slice-aggregate-data-at-3 c = let k = c .before .before .before .before .before in sym (taken-length (entry k))
 
 data-at-requires : tie.Need-data-at-requires Inv-loop μ-loop
 data-at-requires c κs = let l = lp (c .before .before .before .before .before) in (l .loop .inv .2, l .loop .inv .4)
@@ -172,10 +169,10 @@ slice-aggregate-put-bytes : tie.Need-slice-aggregate-put-bytes Inv-loop μ-loop
 slice-aggregate-put-bytes c = let l = lp (c .before .before .before .before .before .before .before .before .before .before .before) in sym (l .loop .inv .1)
 
 array-share-prefix-key-2 : tie.Need-array-share-prefix-key-2 Inv-loop μ-loop
-array-share-prefix-key-2 c = room (c .before .before .before .before .before .before .before .before .before .before .before)
+array-share-prefix-key-2 c = taken-fits (entry (c .before .before .before .before .before .before .before .before .before .before .before))
 
 slice-aggregate-put-bytes-2 : tie.Need-slice-aggregate-put-bytes-2 Inv-loop μ-loop
-slice-aggregate-put-bytes-2 c = let k = c .before .before .before .before .before .before .before .before .before .before .before .before in sym (length-take-le (n k) (key′ k) (room k))
+slice-aggregate-put-bytes-2 c = let k = c .before .before .before .before .before .before .before .before .before .before .before .before in sym (taken-length (entry k))
 
 put-bytes-requires : tie.Need-put-bytes-requires Inv-loop μ-loop
 put-bytes-requires c κs = search needs
@@ -194,7 +191,7 @@ loop-again c =
     let next = l .loop .at + k .before .key-len .given .0 .1 .1 .0 + k .before .key-len .given .0 .1 .1 .1 .0 in (
       scan-more (l .loop .inv .0) t (BlocksLeft (T l) (F l) (eqb next 0) (take (n k) (c .before .put-bytes .last .0)) (take m (last′ a))) (λ es rest left.
           blocks-more (T l) (F l) (eqb (l .loop .at) 0) (take (l .loop .len) (l .loop .before)) (take (l .loop .last-len) (l .loop .last)) es (t .step .here) rest left (t .key) (named a) (u .1 .1) next (omega (arith, t .step .up))
-          (ap (take (n k)) (c .before .put-bytes .ensures .left) ∙ put-start (l .loop .before) (take (n k) (key′ k)) (n k) (length-take-le (n k) (key′ k) (room k)) (omega (arith, l .loop .inv .1, t .step .room)) ∙ t .key) (u .1 .2)),
+          (ap (take (n k)) (c .before .put-bytes .ensures .left) ∙ put-start (l .loop .before) (take (n k) (key′ k)) (n k) (taken-length (entry k)) (omega (arith, l .loop .inv .1, t .step .room)) ∙ t .key) (u .1 .2)),
       c .before .put-bytes .kept .0 ∙ l .loop .inv .1,
       a .data-at .kept .1 .1 .1 .1 .0 ∙ l .loop .inv .2,
       t .step .room,

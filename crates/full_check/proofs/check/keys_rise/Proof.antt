@@ -11,7 +11,7 @@ use lib.Seq.{length-take-le}
 use Rattle.blocks.specs.Formed.{Kind, rises}
 use Rattle.blocks.specs.Block.{pairsOf}
 use Rattle.block_reader.specs.Said.{kindOf}
-use Rattle.block_reader.proofs.EntryLaws.{Taken}
+use Rattle.block_reader.proofs.EntryLaws.{Taken, taken-fits, taken-length}
 use Rattle.block_reader.proofs.RestLaws.{rest-bad, rest-taken}
 use Rattle.block_reader.proofs.WalkLaws.{Scanning, scan-start, scan-bad, scan-end, scan-more, scan-hit}
 use Rattle.table.specs.Table.{lessOf}
@@ -52,9 +52,6 @@ entry c =
     let l = lp c in
     let r = c .before .before .before .before .read-entry in
     rest-taken (D l) (l .loop .at) (l .loop .key) (l .loop .len) (l .loop .inv .0 .within) (l .loop .inv .0 .room) (sym (r .ensures .0) ∙ c .before .key-len .given .1) (r .ensures .1) (r .kept .1 .0)
-
-room : (c : K) → n c ≤ length (key′ c)
-room c = omega (arith, entry c .room, entry c .step .room)
 
 -- the key before it, and the two compared
 abbrev kind : L → Kind
@@ -104,19 +101,19 @@ slice-aggregate-comes-after : tie.Need-slice-aggregate-comes-after Inv-loop μ-l
 slice-aggregate-comes-after c = let l = lp (c .before) in sym (length-take-le (l .loop .len) (l .loop .last) (omega (arith, l .loop .inv .1, l .loop .inv .2)))
 
 array-share-prefix-key : tie.Need-array-share-prefix-key Inv-loop μ-loop
-array-share-prefix-key c = room (c .before)
+array-share-prefix-key c = taken-fits (entry (c .before))
 
 slice-aggregate-comes-after-2 : tie.Need-slice-aggregate-comes-after-2 Inv-loop μ-loop
-slice-aggregate-comes-after-2 c = let k = c .before .before in sym (length-take-le (n k) (key′ k) (room k))
+slice-aggregate-comes-after-2 c = let k = c .before .before in sym (taken-length (entry k))
 
 comes-after-requires : tie.Need-comes-after-requires Inv-loop μ-loop
 comes-after-requires c κs = search needs
 
 array-share-prefix-key-2 : tie.Need-array-share-prefix-key-2 Inv-loop μ-loop
-array-share-prefix-key-2 c = room (c .before .before .before .before .before)
+array-share-prefix-key-2 c = taken-fits (entry (c .before .before .before .before .before))
 
 slice-aggregate-put-bytes : tie.Need-slice-aggregate-put-bytes Inv-loop μ-loop
-slice-aggregate-put-bytes c = let k = c .before .before .before .before .before .before in sym (length-take-le (n k) (key′ k) (room k))
+slice-aggregate-put-bytes c = let k = c .before .before .before .before .before .before in sym (taken-length (entry k))
 
 put-bytes-requires : tie.Need-put-bytes-requires Inv-loop μ-loop
 put-bytes-requires c κs = search needs
@@ -136,7 +133,7 @@ loop-again c =
     let l = lp k in
     let t = entry k in
     let next = l .loop .at + k .before .key-len .given .0 .1 .1 .0 + k .before .key-len .given .0 .1 .1 .1 .0 in
-    (scan-more (l .loop .inv .0) t (RisesLeft (kind l) (eqb next 0) (take (n k) (c .before .before .put-bytes .last .0))) (λ es rest left. rises-more (kind l) (eqb (l .loop .at) 0) (take (l .loop .len) (l .loop .last)) (t .step .here) es rest left next (compared (c .before .before .before .before .before .before) true (c .before .before .before .before .before .if1 .taken)) (omega (arith, t .step .up)) (ap (take (n k)) (c .before .before .put-bytes .ensures .left) ∙ put-start (l .loop .last) (take (n k) (key′ k)) (n k) (length-take-le (n k) (key′ k) (room k)) (omega (arith, l .loop .inv .1, t .step .room)) ∙ t .key)), c .before .before .put-bytes .kept .0 ∙ l .loop .inv .1, t .step .room)
+    (scan-more (l .loop .inv .0) t (RisesLeft (kind l) (eqb next 0) (take (n k) (c .before .before .put-bytes .last .0))) (λ es rest left. rises-more (kind l) (eqb (l .loop .at) 0) (take (l .loop .len) (l .loop .last)) (t .step .here) es rest left next (compared (c .before .before .before .before .before .before) true (c .before .before .before .before .before .if1 .taken)) (omega (arith, t .step .up)) (ap (take (n k)) (c .before .before .put-bytes .ensures .left) ∙ put-start (l .loop .last) (take (n k) (key′ k)) (n k) (taken-length (entry k)) (omega (arith, l .loop .inv .1, t .step .room)) ∙ t .key)), c .before .before .put-bytes .kept .0 ∙ l .loop .inv .1, t .step .room)
 
 same-length-2 : tie.Need-same-length-2 Inv-loop μ-loop
 same-length-2 c = let l = lp (c .before .before .before .before) in l .loop .inv .1 ∙ sym (l .before .before .before .pre)

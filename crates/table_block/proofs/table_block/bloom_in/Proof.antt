@@ -1,15 +1,14 @@
 -- `table_block::table_block::bloom_in` meets its contract. The loop's invariant: the entries from `at` on name the same handle as all.
-use Prim.Native.Nat.{ℕ, _+_, _-_, _≤_}
+use Prim.Native.Nat.{ℕ, _+_, _-_}
 use mathlib.Core.Path.{_≡_, refl, sym, ap, _∙_}
 use mathlib.Core.List.{List}
 use native.Mathlib.Omega.{arith}
 use lib.ListN.{length, take}
-use lib.Seq.{length-take-le}
 use Rattle.codec.specs.Answers.{oneHandleAnswer}
 use Rattle.codec.specs.Bytes.{sameBytes}
 use Rattle.codec.specs.Varint.{oneHandle}
 use Rattle.blocks.specs.Formed.{bloomName}
-use Rattle.block_reader.proofs.EntryLaws.{Taken}
+use Rattle.block_reader.proofs.EntryLaws.{Taken, taken-fits, taken-length}
 use Rattle.block_reader.proofs.RestLaws.{rest-bad, rest-taken, value-lent}
 use Rattle.block_reader.proofs.WalkLaws.{Scanning, Same, scan-start, scan-bad, scan-end, scan-more, scan-hit}
 use Rattle.table_block.proofs.BloomLaws.{named, bloom-end, bloom-here, bloom-past}
@@ -47,9 +46,6 @@ entry c =
     let l = lp c in
     let r = c .before .before .before .before .read-entry in
     rest-taken (D l) (l .loop .at) (l .loop .buf) (l .loop .len) (l .loop .inv .within) (l .loop .inv .room) (sym (r .ensures .0) ∙ c .before .key-len .given .1) (r .ensures .1) (r .kept .1 .0)
-
-room : (c : K) → n c ≤ length (buf′ c)
-room c = omega (arith, entry c .room, entry c .step .room)
 
 -- its key is compared as it stands in the buffer
 name : (c : K) → sameBytes (entry c .step .here .key) bloomName ≡ sameBytes (take (n c) (buf′ c)) bloomName
@@ -91,10 +87,10 @@ add-next : tie.Need-add-next Inv-loop μ-loop
 add-next c = omega (arith, entry c .step .within)
 
 array-share-prefix-buf : tie.Need-array-share-prefix-buf Inv-loop μ-loop
-array-share-prefix-buf c = room c
+array-share-prefix-buf c = taken-fits (entry c)
 
 slice-aggregate-is-bloom : tie.Need-slice-aggregate-is-bloom Inv-loop μ-loop
-slice-aggregate-is-bloom c = let k = c .before in sym (length-take-le (n k) (buf′ k) (room k))
+slice-aggregate-is-bloom c = let k = c .before in sym (taken-length (entry k))
 
 is-bloom-requires : tie.Need-is-bloom-requires Inv-loop μ-loop
 is-bloom-requires c κs = search needs
