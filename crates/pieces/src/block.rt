@@ -1,13 +1,12 @@
 // Blocks: built, checked, walked and searched.
 ghost use mathlib.Core.Path.{_≡_};
-ghost use mathlib.Core.Bool.{cond};
 ghost use lib.ListN.{take};
 ghost use Rattle.blocks.specs.Block.{tailBytes};
 ghost use Rattle.blocks.specs.Formed.{isFormed};
 ghost use Rattle.blocks.specs.Search.{seekIn, firstIn, inOrder, anyOrder};
 ghost use Rattle.block_builder.specs.Builder.{newBuilder};
 ghost use Rattle.block_reader.specs.Said.{kindOf, atIn, nextIn};
-ghost use Rattle.pieces.specs.Numbers.{WroteOut};
+ghost use Rattle.pieces.specs.Numbers.{ToldOut, WroteOut};
 ghost use Rattle.pieces.specs.Blocks.{kindIn, addedWith, AddsBlock, rowOut, SaysOut};
 use crate::numbers::SalevoniSize;
 use crate::numbers::number_if;
@@ -139,7 +138,7 @@ pub extern "C" fn salevoni_block_finish(
 // Whether some bytes are a well-formed block of a kind, 0 data, 1 index, any other metaindex: 0 or 10.
 #[no_mangle]
 pub extern "C" fn salevoni_block_check(block: &[u8], kind: u32) -> u32
-    ensures { λ r. ⌜ r ≡ cond (isFormed (kindOf (kindIn kind)) (now (block .entry))) 0 10 ⌝ }
+    ensures { λ r. ⌜ ToldOut (isFormed (kindOf (kindIn kind)) (now (block .entry))) 0 10 r ⌝ }
 {
     let k = kind_in(kind);
     number_if(block_reader::block::is_formed(block, k), 0, 10)

@@ -1,10 +1,9 @@
 // Filters and the filter block: made, checked and asked.
 ghost use mathlib.Core.Path.{_≡_};
-ghost use mathlib.Core.Bool.{cond};
 ghost use Rattle.filters.specs.Filter.{hash, probes, filterMay};
 ghost use Rattle.filters.specs.FilterBlock.{filterFor, filterFormed, mayMatch, filterBlockOf};
 ghost use Rattle.filter_block.specs.Make.{groupsUpTo};
-ghost use Rattle.pieces.specs.Numbers.{WroteOut};
+ghost use Rattle.pieces.specs.Numbers.{ToldOut, WroteOut};
 ghost use Rattle.pieces.specs.Filters.{bloomOf, madeOut, MadeOut};
 use crate::numbers::SalevoniSize;
 use crate::numbers::number_if;
@@ -101,7 +100,7 @@ pub extern "C" fn salevoni_filter_block_finish(
 // Whether a filter lets a hash through: 1 or 0.
 #[no_mangle]
 pub extern "C" fn salevoni_filter_may(filter: &[u8], hash: u32) -> u32
-    ensures { λ r. ⌜ r ≡ cond (filterMay (now (filter .entry)) hash) 1 0 ⌝ }
+    ensures { λ r. ⌜ ToldOut (filterMay (now (filter .entry)) hash) 1 0 r ⌝ }
 {
     number_if(filter_block::filter::key_may_match(filter, hash), 1, 0)
 }
@@ -109,7 +108,7 @@ pub extern "C" fn salevoni_filter_may(filter: &[u8], hash: u32) -> u32
 // Whether a filter block lets the data block at an offset hold a hash: 1 or 0.
 #[no_mangle]
 pub extern "C" fn salevoni_filter_block_may(block: &[u8], offset: usize, hash: u32) -> u32
-    ensures { λ r. ⌜ r ≡ cond (mayMatch (now (block .entry)) offset hash) 1 0 ⌝ }
+    ensures { λ r. ⌜ ToldOut (mayMatch (now (block .entry)) offset hash) 1 0 r ⌝ }
 {
     let may = filter_block::filter_block::may_match(block, offset, hash);
     number_if(may, 1, 0)
@@ -118,7 +117,7 @@ pub extern "C" fn salevoni_filter_block_may(block: &[u8], offset: usize, hash: u
 // Whether some bytes are a well-formed filter block: 0 or 12.
 #[no_mangle]
 pub extern "C" fn salevoni_filter_block_check(block: &[u8]) -> u32
-    ensures { λ r. ⌜ r ≡ cond (filterFormed (now (block .entry))) 0 12 ⌝ }
+    ensures { λ r. ⌜ ToldOut (filterFormed (now (block .entry))) 0 12 r ⌝ }
 {
     number_if(filter_block::filter_block::is_formed(block), 0, 12)
 }

@@ -3,7 +3,6 @@ use mathlib.Core.Path.{ap, _∙_}
 use Rattle.blocks.specs.Formed.{isFormed}
 use Rattle.block_reader.specs.Said.{kindOf}
 use Rattle.block_reader.specs.declared.block.Kind.{Kind}
-use Rattle.pieces.proofs.NumberLaws.{told}
 use borrow.Author.Needs.{needs}
 use Rattle.pieces.proofs.block.salevoni_block_check.Statement.{statement}
 use Rattle.pieces.proofs.block.salevoni_block_check.Tie as tie
@@ -20,7 +19,11 @@ number-if-requires c κs = search needs
 returns : tie.Need-returns
 returns c =
     let s = c .before .before .before .before .args in
-    told 0 10 (c .number-if .ensures) (c .before .is-formed .ensures ∙ ap (λ (k : Kind). isFormed (kindOf k) (s .block .now)) (c .before .before .kind-in .ensures))
+    record {
+      answer = _;
+      shown = c .number-if .ensures;
+      is = c .before .is-formed .ensures ∙ ap (λ (k : Kind). isFormed (kindOf k) (s .block .now)) (c .before .before .kind-in .ensures);
+    }
 
 pub salevoni-block-check-spec : {M : Type 1} → statement M
 salevoni-block-check-spec =
