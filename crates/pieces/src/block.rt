@@ -7,11 +7,10 @@ ghost use Rattle.blocks.specs.Search.{seekIn, firstIn, inOrder, anyOrder};
 ghost use Rattle.block_builder.specs.Builder.{newBuilder};
 ghost use Rattle.block_reader.specs.Said.{kindOf, atIn, nextIn};
 ghost use Rattle.pieces.specs.Numbers.{ToldOut, WroteOut};
-ghost use Rattle.pieces.specs.Blocks.{kindIn, addedWith, AddsBlock, rowOut, SaysOut};
+ghost use Rattle.pieces.specs.Blocks.{kindIn, AddsBlock, rowOut, SaysOut};
 use crate::numbers::SalevoniSize;
 use crate::numbers::number_if;
 use crate::numbers::size_out;
-use block_builder::block_builder::Added;
 use block_builder::block_builder::BlockBuilder;
 use block_reader::block::Found;
 use block_reader::block::Kind;
@@ -47,17 +46,6 @@ fn kind_in(n: u32) -> Kind
         return Kind::Index;
     }
     Kind::Metaindex
-}
-
-// What adding an entry answers.
-fn added_with(x: Added) -> SalevoniBlockAdded
-    ensures { λ r. ⌜ r ≡ addedWith x ⌝ }
-{
-    let b = x.block;
-    SalevoniBlockAdded {
-        answer: number_if(x.fits, 0, 2),
-        block: b,
-    }
 }
 
 // An answer of reading a block.
@@ -120,7 +108,12 @@ pub extern "C" fn salevoni_block_add(
 ) -> SalevoniBlockAdded
     ensures { λ r. ⌜ AddsBlock block (now (out .entry)) (now (out .exit)) (now (restarts .entry)) (now (restarts .exit)) (now (key .entry)) (now (value .entry)) r ⌝ }
 {
-    added_with(block.add(out, 0, restarts, key, value))
+    let x = block.add(out, 0, restarts, key, value);
+    let b = x.block;
+    SalevoniBlockAdded {
+        answer: number_if(x.fits, 0, 2),
+        block: b,
+    }
 }
 
 // Writes the restarts and their count behind the entries; the block is then the first size bytes of out.

@@ -4,7 +4,7 @@ ghost use Rattle.filters.specs.Filter.{hash, probes, filterMay};
 ghost use Rattle.filters.specs.FilterBlock.{filterFor, filterFormed, mayMatch, filterBlockOf};
 ghost use Rattle.filter_block.specs.Make.{groupsUpTo};
 ghost use Rattle.pieces.specs.Numbers.{ToldOut, WroteOut};
-ghost use Rattle.pieces.specs.Filters.{bloomOf, madeOut, MadeOut};
+ghost use Rattle.pieces.specs.Filters.{bloomOf, MadeOut};
 use crate::numbers::SalevoniSize;
 use crate::numbers::number_if;
 use crate::numbers::size_out;
@@ -17,24 +17,6 @@ pub struct SalevoniFilters {
     pub answer: u32,
     pub bytes: usize,
     pub made: usize,
-}
-
-// What making filters answers.
-fn made_out(m: Made) -> SalevoniFilters
-    ensures { λ r. ⌜ r ≡ madeOut m ⌝ }
-{
-    match m {
-        Made::Filters { bytes, made } => SalevoniFilters {
-            answer: 0,
-            bytes: bytes,
-            made: made,
-        },
-        Made::NoRoom => SalevoniFilters {
-            answer: 2,
-            bytes: 0,
-            made: 0,
-        },
-    }
 }
 
 // The hash of some bytes.
@@ -74,7 +56,7 @@ pub extern "C" fn salevoni_filter_block_add(
 ) -> SalevoniFilters
     ensures { λ r. ⌜ MadeOut (bloomOf bits) (groupsUpTo made count (now (hashes .entry))) bytes made r (now (filters .entry)) (now (filters .exit)) (now (offsets .entry)) (now (offsets .exit)) ⌝ }
 {
-    made_out(filter_block::filter_block::make_filters(
+    let m = filter_block::filter_block::make_filters(
         Filter::Bits(bits),
         hashes,
         count,
@@ -82,7 +64,19 @@ pub extern "C" fn salevoni_filter_block_add(
         bytes,
         offsets,
         made,
-    ))
+    );
+    match m {
+        Made::Filters { bytes, made } => SalevoniFilters {
+            answer: 0,
+            bytes: bytes,
+            made: made,
+        },
+        Made::NoRoom => SalevoniFilters {
+            answer: 2,
+            bytes: 0,
+            made: 0,
+        },
+    }
 }
 
 // The filter block of filters and their starts.
