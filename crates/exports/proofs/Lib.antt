@@ -1,2 +1,1 @@
 pub mod BuildLaws
-pub mod ReadLaws

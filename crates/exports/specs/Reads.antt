@@ -1,9 +1,11 @@
 -- The answers of the full check and the reads, in numbers.
 use Prim.Native.Nat.{ℕ}
+use mathlib.Core.Path.{_≡_}
 use mathlib.Core.List.{List}
 use Rattle.codec.specs.Shown.{Shown}
 use Rattle.keys.specs.Order.{Point}
-use Rattle.table.specs.Checked.{Checked, pass, refuse}
+use Rattle.table.specs.Table.{fullCheck}
+use Rattle.full_check.specs.Answers.{verdictOf}
 use Rattle.full_check.specs.declared.check.Verdict.{Verdict}
 use Rattle.full_check.specs.declared.check.Verdict.the-variants as VerdictCase
 use Rattle.reader.specs.Answers.{Seeks, Looks, Steps}
@@ -14,12 +16,7 @@ use Rattle.reader.specs.declared.table_reader.Sought.{Sought}
 use Rattle.reader.specs.declared.table_reader.Sought.the-variants as SoughtCase
 use Rattle.exports.specs.declared.reads.SalevoniEntry.{SalevoniEntry}
 
--- a test that passes is 0, a refusal its number
-unfoldable pub checkNumber : Checked (Unit {0}) → ℕ
-checkNumber (pass u) = 0
-checkNumber (refuse n) = n
-
--- and so is a verdict
+-- a verdict that passes is 0, a refusal its number
 abbrev pub verdictNumber : Verdict → ℕ
 verdictNumber VerdictCase.Pass = 0
 verdictNumber (VerdictCase.Refused n) = n
@@ -52,6 +49,10 @@ lookedOut (FoundCase.Entry e) = entryWith 0 e
 lookedOut (FoundCase.Deleted e) = entryWith 101 e
 lookedOut FoundCase.Absent = noEntry 100
 lookedOut (FoundCase.Refused n) = noEntry n
+
+-- the full check answers r
+abbrev pub ChecksOut : List ℕ → ℕ → Type 0
+ChecksOut t r = Shown verdictNumber (λ x. x ≡ verdictOf (fullCheck t)) r
 
 -- a seek answers r and turns the key buffer k into k′
 abbrev pub SeeksOut : List ℕ → Point → List ℕ → SalevoniEntry → List ℕ → Type 0

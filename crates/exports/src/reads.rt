@@ -1,7 +1,6 @@
 // The full check of a table, and its reads.
 ghost use mathlib.Core.Path.{_≡_};
-ghost use Rattle.table.specs.Table.{fullCheck};
-ghost use Rattle.exports.specs.Reads.{checkNumber, verdictNumber, entryWith, noEntry, soughtOut, lookedOut, SeeksOut, LooksOut, StepsOut};
+ghost use Rattle.exports.specs.Reads.{verdictNumber, entryWith, noEntry, soughtOut, lookedOut, ChecksOut, SeeksOut, LooksOut, StepsOut};
 use full_check::check::Verdict;
 use reader::table_reader::Entry;
 use reader::table_reader::Found;
@@ -85,7 +84,7 @@ fn looked_out(f: Found) -> SalevoniEntry
 // The full check: 0, or the refusal's number.
 #[no_mangle]
 pub extern "C" fn salevoni_check(table: &[u8]) -> u32
-    ensures { λ r. ⌜ r ≡ checkNumber (fullCheck (now (table .entry))) ⌝ }
+    ensures { λ r. ⌜ ChecksOut (now (table .entry)) r ⌝ }
 {
     verdict_number(full_check::check::check(table))
 }
