@@ -76,27 +76,27 @@ stateKept = (b : Builder) → builderIn (stateOut b) ≡ b
 
 -- ---- the answers
 
--- 0 with a new state, or the refusal's number with another
-unfoldable pub answered : SalevoniState → SalevoniState → Answer → SalevoniBuilt
-answered before after AnswerCase.Ok = record { answer = 0; size = 0; state = after }
-answered before after (AnswerCase.Refused n) = record { answer = n; size = 0; state = before }
+-- 0 with the table's size and a new state, or the refusal's number with another
+unfoldable pub answered : SalevoniState → SalevoniState → Outcome → SalevoniBuilt
+answered before after (OutcomeCase.Size n) = record { answer = 0; size = n; state = after }
+answered before after (OutcomeCase.Refused n) = record { answer = n; size = 0; state = before }
+
+-- an answer of start or add as one of finish: the size is 0
+abbrev pub outcomeOf : Answer → Outcome
+outcomeOf AnswerCase.Ok = OutcomeCase.Size 0
+outcomeOf (AnswerCase.Refused n) = OutcomeCase.Refused n
 
 -- what start answers
 abbrev pub startedOut : Started → SalevoniBuilt
-startedOut x = answered (stateOut (x .state)) (stateOut (x .state)) (x .answer)
+startedOut x = answered (stateOut (x .state)) (stateOut (x .state)) (outcomeOf (x .answer))
 
 -- what add answers: a refusal comes with the state that went in
 abbrev pub addedOut : SalevoniState → Added → SalevoniBuilt
-addedOut before x = answered before (stateOut (x .state)) (x .answer)
-
--- 0 with the table's size and a new state, or the refusal's number with another
-unfoldable pub ended : SalevoniState → SalevoniState → Outcome → SalevoniBuilt
-ended before after (OutcomeCase.Size n) = record { answer = 0; size = n; state = after }
-ended before after (OutcomeCase.Refused n) = record { answer = n; size = 0; state = before }
+addedOut before x = answered before (stateOut (x .state)) (outcomeOf (x .answer))
 
 -- what finish answers
 abbrev pub finishedOut : SalevoniState → Finished → SalevoniBuilt
-finishedOut before x = ended before (stateOut (x .state)) (x .answer)
+finishedOut before x = answered before (stateOut (x .state)) (x .answer)
 
 -- start answers x and turns the runs r into r′
 abbrev pub StartsOut : Options → Runs → Runs → SalevoniBuilt → Type 0

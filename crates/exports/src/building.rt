@@ -1,12 +1,10 @@
 // A table built: start, add, finish. The state goes in and comes back by value.
 ghost use mathlib.Core.Path.{_≡_};
 ghost use Rattle.builder.specs.State.{seven};
-ghost use Rattle.exports.specs.Building.{filterIn, filterNumber, filterBits, builderIn, stateOut, answered, ended, startedOut, addedOut, finishedOut, StartsOut, AddsOut, FinishesOut};
+ghost use Rattle.exports.specs.Building.{filterIn, filterNumber, filterBits, builderIn, stateOut, outcomeOf, answered, startedOut, StartsOut, AddsOut, FinishesOut};
 use block_builder::block_builder::BlockBuilder;
-use builder::table_builder::Added;
 use builder::table_builder::Answer;
 use builder::table_builder::Builder;
-use builder::table_builder::Finished;
 use builder::table_builder::Lengths;
 use builder::table_builder::Options;
 use builder::table_builder::Outcome;
@@ -122,27 +120,19 @@ fn state_out(b: Builder) -> SalevoniState
     }
 }
 
-// What start and add answer: 0 with the state after, or the refusal's number with the one before.
-fn answered(before: SalevoniState, b: Builder, answer: Answer) -> SalevoniBuilt
-    ensures { λ r. ⌜ r ≡ answered before (stateOut b) answer ⌝ }
+// An answer of start or add as one of finish, with a size of 0.
+fn outcome_of(answer: Answer) -> Outcome
+    ensures { λ r. ⌜ r ≡ outcomeOf answer ⌝ }
 {
     match answer {
-        Answer::Ok => SalevoniBuilt {
-            answer: 0,
-            size: 0,
-            state: state_out(b),
-        },
-        Answer::Refused(n) => SalevoniBuilt {
-            answer: n,
-            size: 0,
-            state: before,
-        },
+        Answer::Ok => Outcome::Size(0),
+        Answer::Refused(n) => Outcome::Refused(n),
     }
 }
 
-// What finish answers: the table's size too.
-fn ended(before: SalevoniState, b: Builder, outcome: Outcome) -> SalevoniBuilt
-    ensures { λ r. ⌜ r ≡ ended before (stateOut b) outcome ⌝ }
+// What a call answers: 0 with the size and the state after, or the refusal's number with the state before.
+fn answered(before: SalevoniState, b: Builder, outcome: Outcome) -> SalevoniBuilt
+    ensures { λ r. ⌜ r ≡ answered before (stateOut b) outcome ⌝ }
 {
     match outcome {
         Outcome::Size(n) => SalevoniBuilt {
@@ -164,25 +154,7 @@ fn started_out(x: Started) -> SalevoniBuilt
 {
     let answer = x.answer;
     let b = x.state;
-    answered(state_out(b), b, answer)
-}
-
-// Add's answer; a refusal comes with the state that went in.
-fn added_out(before: SalevoniState, x: Added) -> SalevoniBuilt
-    ensures { λ r. ⌜ r ≡ addedOut before x ⌝ }
-{
-    let answer = x.answer;
-    let b = x.state;
-    answered(before, b, answer)
-}
-
-// Finish's answer likewise.
-fn finished_out(before: SalevoniState, x: Finished) -> SalevoniBuilt
-    ensures { λ r. ⌜ r ≡ finishedOut before x ⌝ }
-{
-    let outcome = x.answer;
-    let b = x.state;
-    ended(before, b, outcome)
+    answered(state_out(b), b, outcome_of(answer))
 }
 
 // Starts a table in seven runs; nothing is written.
@@ -252,7 +224,9 @@ pub extern "C" fn salevoni_add(
         kind,
         value,
     );
-    added_out(state, x)
+    let answer = x.answer;
+    let after = x.state;
+    answered(state, after, outcome_of(answer))
 }
 
 // Writes all that is left of the table, which is then the first size bytes of out.
@@ -279,5 +253,7 @@ pub extern "C" fn salevoni_finish(
         offsets,
         hashes,
     );
-    finished_out(state, x)
+    let outcome = x.answer;
+    let after = x.state;
+    answered(state, after, outcome)
 }

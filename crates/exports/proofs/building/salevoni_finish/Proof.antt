@@ -10,8 +10,8 @@ builder-in-requires c κs = search needs
 finish-requires : tie.Need-finish-requires
 finish-requires c κs = search needs
 
-finished-out-requires : tie.Need-finished-out-requires
-finished-out-requires c κs = search needs
+answered-requires : tie.Need-answered-requires
+answered-requires c κs = search needs
 
 same-length : tie.Need-same-length
 same-length c = search needs
@@ -36,9 +36,9 @@ same-length-7 c = search needs
 
 returns : tie.Need-returns
 returns c =
-    let a = c .before .before .before .before .before .before .before .before .before .before .before .before .before .before .before in
+    let a = c .before .before .before .before .before .before .before .before .before .before .before .before .before .before .before .before in
     let b = a .before .before .before .before .before .before .before .before in
-    finishes (b .before .before .before .before .before .before .before .before .args .state) (b .builder-in .ensures) (a .finish .ensures) (c .finished-out .ensures)
+    finishes (b .before .before .before .before .before .before .before .before .args .state) (b .builder-in .ensures) (a .finish .ensures) (c .answered .ensures)
 
 pub salevoni-finish-spec : {M : Type 1} → statement M
 salevoni-finish-spec =
@@ -46,7 +46,7 @@ salevoni-finish-spec =
     (tie.spec
     builder-in-requires
     finish-requires
-    finished-out-requires
+    answered-requires
     same-length
     same-length-2
     same-length-3
