@@ -20,10 +20,12 @@ pub struct SalevoniFooter {
     pub index_size: usize,
 }
 
-// What decoding a footer answers.
-fn footer_out(f: FooterRead) -> SalevoniFooter
-    ensures { λ r. ⌜ r ≡ footerOut f ⌝ }
+// The footer of a table.
+#[no_mangle]
+pub extern "C" fn salevoni_footer(table: &[u8]) -> SalevoniFooter
+    ensures { λ r. ⌜ r ≡ footerOut (footerAnswer (footer (now (table .entry)))) ⌝ }
 {
+    let f = table_block::footer::decode(table);
     match f {
         FooterRead::Footer {
             meta_offset,
@@ -45,14 +47,6 @@ fn footer_out(f: FooterRead) -> SalevoniFooter
             index_size: 0,
         },
     }
-}
-
-// The footer of a table.
-#[no_mangle]
-pub extern "C" fn salevoni_footer(table: &[u8]) -> SalevoniFooter
-    ensures { λ r. ⌜ r ≡ footerOut (footerAnswer (footer (now (table .entry)))) ⌝ }
-{
-    footer_out(table_block::footer::decode(table))
 }
 
 // The checksum continued over some bytes; it starts from 0.
