@@ -1,6 +1,6 @@
 -- The builder's calls through the state in numbers, and that no state is changed on the way out and in again.
 use Prim.Native.Nat.{ℕ}
-use mathlib.Core.Path.{_≡_, refl, ap, subst, _∙_}
+use mathlib.Core.Path.{_≡_, refl, ap, subst}
 use mathlib.Core.Bool.{Bool, true, false, cond, not}
 use lib.Dec.{eqb}
 use Rattle.codec.specs.Shown.{Shown}
@@ -13,9 +13,8 @@ use Rattle.builder.specs.declared.table_builder.Added.{Added}
 use Rattle.builder.specs.declared.table_builder.Builder.{Builder}
 use Rattle.builder.specs.declared.table_builder.Finished.{Finished}
 use Rattle.builder.specs.declared.table_builder.Options.{Options}
-use Rattle.builder.specs.declared.table_builder.Outcome.{Outcome}
 use Rattle.builder.specs.declared.table_builder.Started.{Started}
-use Rattle.exports.specs.Building.{filterIn, filterNumber, filterBits, builderIn, stateOut, stateKept, outcomeOf, answered, startedOut, finishedOut, StartsOut, AddsOut, FinishesOut}
+use Rattle.exports.specs.Building.{filterIn, filterNumber, filterBits, builderIn, stateOut, stateKept, startedOut, addedOut, finishedOut, StartsOut, AddsOut, FinishesOut}
 use Rattle.exports.specs.declared.building.SalevoniState.{SalevoniState}
 use Rattle.exports.specs.declared.building.SalevoniBuilt.{SalevoniBuilt}
 
@@ -48,8 +47,8 @@ pub starts : {o p : Options} {r r′ : Runs} {x : Started} {y : SalevoniBuilt} �
 starts {r = r} {r′ = r′} = shown-of (λ o x. StartedIs o r r′ x)
 
 -- add to the builder of a state
-pub adds : (s : SalevoniState) {b : Builder} {r r′ : Runs} {a : Addition} {x : Added} {o : Outcome} {y : SalevoniBuilt} → b ≡ builderIn s → AddedIs b r r′ a x → o ≡ outcomeOf (x .answer) → y ≡ answered s (stateOut (x .state)) o → AddsOut s r r′ a y
-adds s {r = r} {r′ = r′} {a = a} e is told shown = shown-of (λ b x. AddedIs b r r′ a x) e is (shown ∙ ap (answered s _) told)
+pub adds : (s : SalevoniState) {b : Builder} {r r′ : Runs} {a : Addition} {x : Added} {y : SalevoniBuilt} → b ≡ builderIn s → AddedIs b r r′ a x → y ≡ addedOut s x → AddsOut s r r′ a y
+adds s {r = r} {r′ = r′} {a = a} = shown-of (λ b x. AddedIs b r r′ a x)
 
 -- finish of the builder of a state
 pub finishes : (s : SalevoniState) {b : Builder} {r r′ : Runs} {x : Finished} {y : SalevoniBuilt} → b ≡ builderIn s → FinishedIs b r r′ x → y ≡ finishedOut s x → FinishesOut s r r′ y

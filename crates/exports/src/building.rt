@@ -1,8 +1,9 @@
 // A table built: start, add, finish. The state goes in and comes back by value.
 ghost use mathlib.Core.Path.{_≡_};
 ghost use Rattle.builder.specs.State.{seven};
-ghost use Rattle.exports.specs.Building.{filterIn, filterNumber, filterBits, builderIn, stateOut, outcomeOf, answered, startedOut, StartsOut, AddsOut, FinishesOut};
+ghost use Rattle.exports.specs.Building.{filterIn, filterNumber, filterBits, builderIn, stateOut, outcomeOf, answered, startedOut, addedOut, StartsOut, AddsOut, FinishesOut};
 use block_builder::block_builder::BlockBuilder;
+use builder::table_builder::Added;
 use builder::table_builder::Answer;
 use builder::table_builder::Builder;
 use builder::table_builder::Lengths;
@@ -157,6 +158,15 @@ fn started_out(x: Started) -> SalevoniBuilt
     answered(state_out(b), b, outcome_of(answer))
 }
 
+// Add's answer; a refusal comes with the state that went in.
+fn added_out(before: SalevoniState, x: Added) -> SalevoniBuilt
+    ensures { λ r. ⌜ r ≡ addedOut before x ⌝ }
+{
+    let answer = x.answer;
+    let b = x.state;
+    answered(before, b, outcome_of(answer))
+}
+
 // Starts a table in seven runs; nothing is written.
 #[no_mangle]
 pub extern "C" fn salevoni_start(
@@ -224,9 +234,7 @@ pub extern "C" fn salevoni_add(
         kind,
         value,
     );
-    let answer = x.answer;
-    let after = x.state;
-    answered(state, after, outcome_of(answer))
+    added_out(state, x)
 }
 
 // Writes all that is left of the table, which is then the first size bytes of out.

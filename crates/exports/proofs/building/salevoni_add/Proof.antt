@@ -10,11 +10,8 @@ builder-in-requires c κs = search needs
 add-requires : tie.Need-add-requires
 add-requires c κs = search needs
 
-outcome-of-requires : tie.Need-outcome-of-requires
-outcome-of-requires c κs = search needs
-
-answered-requires : tie.Need-answered-requires
-answered-requires c κs = search needs
+added-out-requires : tie.Need-added-out-requires
+added-out-requires c κs = search needs
 
 same-length : tie.Need-same-length
 same-length c = search needs
@@ -39,9 +36,9 @@ same-length-7 c = search needs
 
 returns : tie.Need-returns
 returns c =
-    let a = c .before .before .before .before .before .before .before .before .before .before .before .before .before .before .before .before .before in
+    let a = c .before .before .before .before .before .before .before .before .before .before .before .before .before .before .before in
     let b = a .before .before .before .before .before .before .before .before in
-    adds (b .before .before .before .before .before .before .before .before .before .before .args .state) (b .builder-in .ensures) (a .add .ensures) (c .before .outcome-of .ensures) (c .answered .ensures)
+    adds (b .before .before .before .before .before .before .before .before .before .before .args .state) (b .builder-in .ensures) (a .add .ensures) (c .added-out .ensures)
 
 pub salevoni-add-spec : {M : Type 1} → statement M
 salevoni-add-spec =
@@ -49,8 +46,7 @@ salevoni-add-spec =
     (tie.spec
     builder-in-requires
     add-requires
-    outcome-of-requires
-    answered-requires
+    added-out-requires
     same-length
     same-length-2
     same-length-3
