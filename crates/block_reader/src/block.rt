@@ -6,7 +6,6 @@ ghost use Prim.Native.Nat.{_+_, _*_, _≤_, _<_};
 ghost use lib.Dec.{eqb};
 ghost use lib.ListN.{length, take, drop};
 ghost use Rattle.codec.specs.Bytes.{numbers, sameBytes};
-ghost use Rattle.keys.specs.Order.{isLess, pointOf, byPoint};
 ghost use Rattle.blocks.specs.Block.{head, entry};
 ghost use Rattle.blocks.specs.Formed.{isFormed, isHandle, bloomName, entryFits, enough};
 ghost use Rattle.blocks.specs.Search.{seekIn, firstIn, inOrder, anyOrder};
@@ -19,6 +18,8 @@ use codec::limits;
 use codec::limits::least;
 use codec::put::Written;
 use codec::varint::VarintRead;
+use keys::cmp::is_less;
+use keys::key_types::cmp_target;
 
 pub enum Kind {
     Data,
@@ -603,13 +604,6 @@ pub fn by_place(s: &[u8], at: usize, which: Which, key: &mut [u8]) -> Found
     }
 }
 
-// Whether a key is below a target.
-fn is_below(key: &[u8], word: &[u8], sequence: u64) -> bool
-    ensures { λ r. ⌜ r ≡ isLess (byPoint (pointOf (now (key .entry))) (record { word = now (word .entry); edition = sequence })) ⌝ }
-{
-    keys::cmp::is_less(keys::key_types::cmp_target(key, word, sequence))
-}
-
 // Whether the entry at restart mid is below a target: it shares nothing, so its key is compared where it stands.
 fn restart_below(s: &[u8], d: &[u8], end: usize, mid: usize, word: &[u8], sequence: u64) -> Probe
     requires { ⌜ end + 4 * mid + 4 ≤ length (now s) ⌝ }
@@ -623,7 +617,7 @@ fn restart_below(s: &[u8], d: &[u8], end: usize, mid: usize, word: &[u8], sequen
         FreshRead::Bad => Probe::Not,
         FreshRead::Key { key_at, key_len } => {
             let to = key_at + key_len;
-            if is_below(&d[key_at..to], word, sequence) {
+            if is_less(cmp_target(&d[key_at..to], word, sequence)) {
                 Probe::Below(r)
             } else {
                 Probe::Not
@@ -674,7 +668,7 @@ fn scan(d: &[u8], from: usize, word: &[u8], sequence: u64, key: &mut [u8]) -> Fo
                 value_at,
                 value_len,
             } => {
-                if is_below(&buf[..key_len], word, sequence) {
+                if is_less(cmp_target(&buf[..key_len], word, sequence)) {
                     len = key_len;
                     at = value_at + value_len;
                 } else {

@@ -76,7 +76,7 @@ fn comes_after(kind: Kind, first: bool, a: &[u8], b: &[u8]) -> bool
     match kind {
         Kind::Data => keys::key_types::key_below(a, b),
         Kind::Index => keys::key_types::key_below(a, b),
-        Kind::Metaindex => keys::cmp::below(a, b),
+        Kind::Metaindex => keys::cmp::is_less(keys::cmp::cmp(a, b)),
     }
 }
 
@@ -154,10 +154,10 @@ fn key_follows(first: bool, before: &[u8], last: &[u8], key: &[u8]) -> bool
     if same_point(before, last) {
         return true;
     }
-    keys::cmp::below(
+    keys::cmp::is_less(keys::cmp::cmp(
         keys::key_types::user_key(before),
         keys::key_types::user_key(key),
-    )
+    ))
 }
 
 // The same of the first of the entries that fill d.

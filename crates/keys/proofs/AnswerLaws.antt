@@ -1,6 +1,7 @@
 -- What the code answers and writes of keys, against the definitions: comparisons, kinds, tags.
 use Prim.Native.Nat.{ℕ, zero, suc, _+_, _*_, _-_, _/_, _%_, _^_, _≤_, _<_, compare, Ordering, Ordering·lt, Ordering·eq, Ordering·gt}
 use mathlib.Core.Path.{_≡_, refl, sym, ap, _∙_}
+use mathlib.Core.Bool.{Bool}
 use mathlib.Core.List.{List, []}
 use native.Mathlib.Omega.{arith}
 use lib.ListN.{length, drop, getD, length-drop}
@@ -29,12 +30,15 @@ pub order-said : (o : Ordering) {r : OrderingEnum.Ordering} → orderAnswer o �
 unfolding orderAnswer
 order-said = came-of orderAnswer orderIn (λ o. elim o [ Ordering·lt ↦ refl | Ordering·eq ↦ refl | Ordering·gt ↦ refl ])
 
--- "less" is said of what is so
-pub says-less : (o : Ordering) → saysLess (orderAnswer o) ≡ isLess o
+says-less : (o : Ordering) → saysLess (orderAnswer o) ≡ isLess o
 unfolding orderAnswer
 says-less Ordering·lt = refl
 says-less Ordering·eq = refl
 says-less Ordering·gt = refl
+
+-- "less" is said of what is so
+pub less-told : (o : Ordering) {a : OrderingEnum.Ordering} {r : Bool} → r ≡ saysLess a → a ≡ orderAnswer o → r ≡ isLess o
+less-told o e p = e ∙ ap saysLess p ∙ says-less o
 
 -- a key against a target: the words decide, or where they are equal the sequences
 module _ (k w : List ℕ) (s : ℕ) {u : List ℕ} (isU : u ≡ userOf k) where

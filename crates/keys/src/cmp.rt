@@ -149,13 +149,6 @@ pub fn is_less(o: Ordering) -> bool
     }
 }
 
-// Whether a is below b.
-pub fn below(a: &[u8], b: &[u8]) -> bool
-    ensures { λ r. ⌜ r ≡ bytesBelow (now (a .entry)) (now (b .entry)) ⌝ }
-{
-    is_less(cmp(a, b))
-}
-
 // Whether a and b are the same bytes.
 pub fn same(a: &[u8], b: &[u8]) -> bool
     ensures { λ r. ⌜ r ≡ sameBytes (now (a .entry)) (now (b .entry)) ⌝ }
@@ -172,14 +165,14 @@ fn joined_below(front: &[u8], x: u8, back: &[u8], b: &[u8]) -> bool
 {
     let n = front.len();
     if b.len() <= n {
-        return below(front, b);
+        return is_less(cmp(front, b));
     }
     match cmp(front, &b[..n]) {
         Ordering::Less => true,
         Ordering::Greater => false,
         Ordering::Equal => {
             if x == b[n] {
-                below(back, &b[n + 1..])
+                is_less(cmp(back, &b[n + 1..]))
             } else {
                 x < b[n]
             }
@@ -201,7 +194,7 @@ fn sep_below(a: &[u8], s: Sep, b: &[u8]) -> bool
     ensures { λ r. ⌜ r ≡ bytesBelow (sepBytes (now (a .entry)) s) (now (b .entry)) ⌝ }
 {
     match s {
-        Sep::Whole => below(a, b),
+        Sep::Whole => is_less(cmp(a, b)),
         Sep::Longer => joined_below(a, 0, b"", b),
         Sep::Raised { at, len } => raised_below(a, at, len, b),
     }
@@ -265,7 +258,7 @@ fn plan(a: &[u8], b: &[u8]) -> Sep
     if a.len() == 0 {
         return Sep::Whole;
     }
-    if !below(a, b) {
+    if !is_less(cmp(a, b)) {
         return Sep::Whole;
     }
     let s = shortest(a, b);

@@ -5,6 +5,7 @@ use mathlib.Core.List.{List}
 use native.Mathlib.Omega.{arith}
 use Rattle.codec.proofs.BytesLaws.{part-between}
 use Rattle.keys.specs.Order.{isLess, pointOf, byPoint}
+use Rattle.keys.proofs.AnswerLaws.{less-told}
 use Rattle.block_reader.specs.declared.block.FreshRead.{FreshRead}
 use Rattle.block_reader.specs.Steps.{Fresh, FreshAt}
 use borrow.Author.Needs.{needs}
@@ -48,33 +49,36 @@ enum-known-key-at c = search needs
 add-to : tie.Need-add-to
 add-to c = omega (arith, found c .within)
 
-sub-is-below : tie.Need-sub-is-below
-sub-is-below c = search needs
+sub-cmp-target : tie.Need-sub-cmp-target
+sub-cmp-target c = search needs
 
-part-is-below-start : tie.Need-part-is-below-start
-part-is-below-start c = search needs
+part-cmp-target-start : tie.Need-part-cmp-target-start
+part-cmp-target-start c = search needs
 
-part-is-below-end : tie.Need-part-is-below-end
-part-is-below-end c = omega (arith, found c .within)
+part-cmp-target-end : tie.Need-part-cmp-target-end
+part-cmp-target-end c = omega (arith, found c .within)
 
-is-below-requires : tie.Need-is-below-requires
-is-below-requires c κs = search needs
+cmp-target-requires : tie.Need-cmp-target-requires
+cmp-target-requires c κs = search needs
+
+is-less-requires : tie.Need-is-less-requires
+is-less-requires c κs = search needs
 
 returns-2 : tie.Need-returns-2
 returns-2 c = search needs
 
 returns-3 : tie.Need-returns-3
 returns-3 c =
-    let k = c .before .before .before in
+    let k = c .before .before .before .before in
     let b = k .before .before .before .before .before .before .before .before .before in
     record {
-      is = c .before .before .before .before .before .before .before .before .restart .ensures;
-      inside = c .before .before .before .before .before .before .before .if1 .left;
+      is = c .before .before .before .before .before .before .before .before .before .restart .ensures;
+      inside = c .before .before .before .before .before .before .before .before .if1 .left;
       here = found k .here;
       reads = found k .reads;
       below =
           ap (λ (q : List ℕ). isLess (byPoint (pointOf q) (record { word = b .args .word .now; edition = b .args .sequence }))) (found k .key ∙ sym (part-between (D k) (a k) (n k)))
-          ∙ sym (c .before .is-below .ensures) ∙ c .if2 .taken;
+          ∙ sym (less-told _ (c .before .is-less .ensures) (c .before .before .cmp-target .ensures)) ∙ c .if2 .taken;
     }
 
 returns-4 : tie.Need-returns-4
@@ -90,10 +94,11 @@ restart-below-spec =
     enum-told
     enum-known-key-at
     add-to
-    sub-is-below
-    part-is-below-start
-    part-is-below-end
-    is-below-requires
+    sub-cmp-target
+    part-cmp-target-start
+    part-cmp-target-end
+    cmp-target-requires
+    is-less-requires
     returns-2
     returns-3
     returns-4)

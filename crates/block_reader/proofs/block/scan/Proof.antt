@@ -7,6 +7,7 @@ use mathlib.Core.Option.{some}
 use native.Mathlib.Omega.{arith}
 use lib.ListN.{length, take}
 use Rattle.keys.specs.Order.{Point, isLess, pointOf, byPoint}
+use Rattle.keys.proofs.AnswerLaws.{less-told}
 use Rattle.blocks.specs.Search.{seekIn}
 use Rattle.blocks.proofs.ReadLaws.{entry-start}
 use Rattle.block_reader.proofs.EntryLaws.{Taken, taken, taken-fits, taken-length}
@@ -52,8 +53,10 @@ entry c =
     taken (start l .args .d .now) (l .loop .at) (l .loop .buf) (l .loop .len) (l .loop .inv .0 .within) (l .loop .inv .0 .room) (sym (r .ensures .0) ∙ c .before .key-len .given .1) (r .ensures .1) (r .kept .1 .1 .0)
 
 -- its key is compared as it stands in the buffer
-order : (c : K) → isLess (byPoint (pointOf (entry c .step .here .key)) (point (lp c))) ≡ isLess (byPoint (pointOf (take (n c) (buf′ c))) (point (lp c)))
-order c = ap (λ (q : List ℕ). isLess (byPoint (pointOf q) (point (lp c)))) (sym (entry c .key))
+order : (c : tie.After-is-less Inv-loop μ-loop) → let k = c .before .before .before in isLess (byPoint (pointOf (entry k .step .here .key)) (point (lp k))) ≡ c .is-less .result
+order c =
+    let k = c .before .before .before in
+    ap (λ (q : List ℕ). isLess (byPoint (pointOf q) (point (lp k)))) (sym (entry k .key)) ∙ sym (less-told _ (c .is-less .ensures) (c .before .cmp-target .ensures))
 
 loop-holds : tie.Need-loop-holds Inv-loop μ-loop
 loop-holds c = let b = c .before .before .before in (scan-start (b .args .d .now) (b .args .from) (Same (seekIn _)) _ refl (b .pre) (λ es. refl), refl)
@@ -81,46 +84,49 @@ enum-known-key-len c = search needs
 array-share-prefix-buf : tie.Need-array-share-prefix-buf Inv-loop μ-loop
 array-share-prefix-buf c = taken-fits (entry c)
 
-slice-aggregate-is-below : tie.Need-slice-aggregate-is-below Inv-loop μ-loop
-slice-aggregate-is-below c = let k = c .before in sym (taken-length (entry k))
+slice-aggregate-cmp-target : tie.Need-slice-aggregate-cmp-target Inv-loop μ-loop
+slice-aggregate-cmp-target c = let k = c .before in sym (taken-length (entry k))
 
-is-below-requires : tie.Need-is-below-requires Inv-loop μ-loop
-is-below-requires c κs = search needs
+cmp-target-requires : tie.Need-cmp-target-requires Inv-loop μ-loop
+cmp-target-requires c κs = search needs
+
+is-less-requires : tie.Need-is-less-requires Inv-loop μ-loop
+is-less-requires c κs = search needs
 
 add-at : tie.Need-add-at Inv-loop μ-loop
-add-at c = omega (arith, entry (c .before .before .before) .step .within)
+add-at c = omega (arith, entry (c .before .before .before .before) .step .within)
 
 loop-less : tie.Need-loop-less Inv-loop μ-loop
-loop-less c = omega (arith, entry (c .before .before .before) .step .up)
+loop-less c = omega (arith, entry (c .before .before .before .before) .step .up)
 
 loop-again : tie.Need-loop-again Inv-loop μ-loop
 loop-again c =
-    let k = c .before .before .before in
+    let k = c .before .before .before .before in
     let t = entry k in
     let l = lp k in
-    (scan-more (l .loop .inv .0) t (Same (seekIn (point l))) (λ es rest same. same ∙ seek-past (point l) (t .step .here) rest (order k ∙ sym (c .before .is-below .ensures) ∙ c .if1 .taken)), l .loop .inv .1)
+    (scan-more (l .loop .inv .0) t (Same (seekIn (point l))) (λ es rest same. same ∙ seek-past (point l) (t .step .here) rest (order (c .before) ∙ c .if1 .taken)), l .loop .inv .1)
 
 array-share-prefix-buf-2 : tie.Need-array-share-prefix-buf-2 Inv-loop μ-loop
-array-share-prefix-buf-2 c = taken-fits (entry (c .before .before .before .before))
+array-share-prefix-buf-2 c = taken-fits (entry (c .before .before .before .before .before))
 
 slice-aggregate-hand : tie.Need-slice-aggregate-hand Inv-loop μ-loop
-slice-aggregate-hand c = let k = c .before .before .before .before .before in sym (taken-length (entry k))
+slice-aggregate-hand c = let k = c .before .before .before .before .before .before in sym (taken-length (entry k))
 
 hand-requires : tie.Need-hand-requires Inv-loop μ-loop
 hand-requires c κs = search needs
 
 same-length-2 : tie.Need-same-length-2 Inv-loop μ-loop
 same-length-2 c =
-    let k = c .before .before .before .before .before .before .before .before in
+    let k = c .before .before .before .before .before .before .before .before .before in
     c .before .before .hand .kept .0 ∙ ap length (lp k .loop .inv .1)
 
 returns-2 : tie.Need-returns-2 Inv-loop μ-loop
 returns-2 c =
-    let k = c .before .before .before .before .before .before .before .before in
+    let k = c .before .before .before .before .before .before .before .before .before in
     let l = lp k in
     let t = entry k in
     told-entry _ _ _ (seekIn (point l)) _ (t .step .here) (entry-start _ _ _ (t .step .reads)) (sym (t .key)) (t .step .valueAt) (t .step .valueSize) (t .step .within) (omega (arith, taken-length (entry k), t .step .room))
-    (scan-hit (l .loop .inv .0) t (λ es. seekIn (point l) es ≡ some (some (t .step .here))) (λ es rest same. same ∙ seek-here (point l) (t .step .here) rest (order k ∙ sym (c .before .before .before .before .before .before .is-below .ensures) ∙ c .before .before .before .before .before .if1 .left)))
+    (scan-hit (l .loop .inv .0) t (λ es. seekIn (point l) es ≡ some (some (t .step .here))) (λ es rest same. same ∙ seek-here (point l) (t .step .here) rest (order (c .before .before .before .before .before .before) ∙ c .before .before .before .before .before .if1 .left)))
     (rw (l .loop .inv .1) at (c .before .before .hand .ensures))
 
 same-length-3 : tie.Need-same-length-3 Inv-loop μ-loop
@@ -145,8 +151,9 @@ scan-spec =
     returns
     enum-known-key-len
     array-share-prefix-buf
-    slice-aggregate-is-below
-    is-below-requires
+    slice-aggregate-cmp-target
+    cmp-target-requires
+    is-less-requires
     add-at
     loop-less
     loop-again

@@ -1,4 +1,6 @@
 -- `full_check::check::comes_after` meets its contract.
+use Rattle.keys.specs.Order.{bytesBelow}
+use Rattle.keys.proofs.AnswerLaws.{less-told}
 use Rattle.block_reader.specs.Said.{kindOf}
 use Rattle.table.specs.Table.{lessOf}
 use Rattle.full_check.proofs.KeyLaws.{after-first, after-next}
@@ -24,8 +26,11 @@ key-below-requires-2 c κs = search needs
 enum-told-3 : tie.Need-enum-told-3
 enum-told-3 c = search needs
 
-below-requires : tie.Need-below-requires
-below-requires c κs = search needs
+cmp-requires : tie.Need-cmp-requires
+cmp-requires c κs = search needs
+
+is-less-requires : tie.Need-is-less-requires
+is-less-requires c κs = search needs
 
 returns-2 : tie.Need-returns-2
 unfolding kindOf lessOf
@@ -36,8 +41,8 @@ unfolding kindOf lessOf
 returns-3 c = after-next _ _ (c .before .before .before .if1 .left) (c .before .enum-told2 .given .1) (c .key-below2 .ensures)
 
 returns-4 : tie.Need-returns-4
-unfolding kindOf lessOf
-returns-4 c = after-next _ _ (c .before .before .before .if1 .left) (c .before .enum-told3 .given .1) (c .below .ensures)
+unfolding kindOf lessOf bytesBelow
+returns-4 c = after-next _ _ (c .before .before .before .before .if1 .left) (c .before .before .enum-told3 .given .1) (less-told _ (c .is-less .ensures) (c .before .cmp .ensures))
 
 pub comes-after-spec : {M : Type 1} → statement M
 comes-after-spec =
@@ -49,7 +54,8 @@ comes-after-spec =
     enum-told-2
     key-below-requires-2
     enum-told-3
-    below-requires
+    cmp-requires
+    is-less-requires
     returns-2
     returns-3
     returns-4)

@@ -1,5 +1,7 @@
 -- `full_check::check::key_follows` meets its contract.
 use mathlib.Core.Path.{sym, _∙_}
+use Rattle.keys.specs.Order.{bytesBelow}
+use Rattle.keys.proofs.AnswerLaws.{less-told}
 use Rattle.full_check.proofs.KeyLaws.{follows-first, follows-last, follows-index, follows-same, follows-word}
 use borrow.Author.Needs.{needs}
 use Rattle.full_check.proofs.check.key_follows.Statement.{statement}
@@ -32,11 +34,15 @@ user-key-requires c κs = search needs
 user-key-requires-2 : tie.Need-user-key-requires-2
 user-key-requires-2 c κs = search needs
 
-below-requires : tie.Need-below-requires
-below-requires c κs = search needs
+cmp-requires : tie.Need-cmp-requires
+cmp-requires c κs = search needs
+
+is-less-requires : tie.Need-is-less-requires
+is-less-requires c κs = search needs
 
 returns-5 : tie.Need-returns-5
-returns-5 c = c .below .ensures ∙ follows-word _ _ _ (c .before .before .before .before .before .before .before .before .before .if1 .left) (sym (c .before .before .before .before .before .before .before .before .key-below .ensures) ∙ c .before .before .before .before .before .before .before .if2 .taken) (sym (c .before .before .before .before .before .before .key-below2 .ensures) ∙ c .before .before .before .before .before .if3 .taken) (c .before .before .user-key .ensures) (c .before .user-key2 .ensures) (sym (c .before .before .before .before .same-point .ensures) ∙ c .before .before .before .if4 .left)
+unfolding bytesBelow
+returns-5 c = less-told _ (c .is-less .ensures) (c .before .cmp .ensures) ∙ follows-word _ _ _ (c .before .before .before .before .before .before .before .before .before .before .if1 .left) (sym (c .before .before .before .before .before .before .before .before .before .key-below .ensures) ∙ c .before .before .before .before .before .before .before .before .if2 .taken) (sym (c .before .before .before .before .before .before .before .key-below2 .ensures) ∙ c .before .before .before .before .before .before .if3 .taken) (c .before .before .before .user-key .ensures) (c .before .before .user-key2 .ensures) (sym (c .before .before .before .before .before .same-point .ensures) ∙ c .before .before .before .before .if4 .left)
 
 pub key-follows-spec : {M : Type 1} → statement M
 key-follows-spec =
@@ -51,5 +57,6 @@ key-follows-spec =
     returns-4
     user-key-requires
     user-key-requires-2
-    below-requires
+    cmp-requires
+    is-less-requires
     returns-5)

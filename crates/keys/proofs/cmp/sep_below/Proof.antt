@@ -2,6 +2,7 @@
 use mathlib.Core.Path.{sym, ap, _∙_}
 use Rattle.keys.specs.Order.{bytesBelow}
 use Rattle.keys.specs.Plan.{sepBytes}
+use Rattle.keys.proofs.AnswerLaws.{less-told}
 use Rattle.keys.proofs.PlanLaws.{fits-raised}
 use borrow.Author.Needs.{needs}
 use Rattle.keys.proofs.cmp.sep_below.Statement.{statement}
@@ -10,8 +11,11 @@ use Rattle.keys.proofs.cmp.sep_below.Tie as tie
 enum-told : tie.Need-enum-told
 enum-told c = search needs
 
-below-requires : tie.Need-below-requires
-below-requires c κs = search needs
+cmp-requires : tie.Need-cmp-requires
+cmp-requires c κs = search needs
+
+is-less-requires : tie.Need-is-less-requires
+is-less-requires c κs = search needs
 
 enum-told-2 : tie.Need-enum-told-2
 enum-told-2 c = search needs
@@ -29,10 +33,10 @@ raised-below-requires : tie.Need-raised-below-requires
 raised-below-requires c κs = fits-raised (c .before .before .before .before .before .pre) (c .before .s .given .1)
 
 returns : tie.Need-returns
-unfolding sepBytes
+unfolding bytesBelow sepBytes
 returns c =
-    let a = c .before .before .before .before .before .args in
-    c .below .ensures ∙ sym (ap (λ s. bytesBelow (sepBytes (a .a .now) s) (a .b .now)) (c .before .enum-told .given .1))
+    let a = c .before .before .before .before .before .before .args in
+    less-told _ (c .is-less .ensures) (c .before .cmp .ensures) ∙ sym (ap (λ s. bytesBelow (sepBytes (a .a .now) s) (a .b .now)) (c .before .before .enum-told .given .1))
 
 returns-2 : tie.Need-returns-2
 unfolding sepBytes
@@ -51,7 +55,8 @@ sep-below-spec =
     tie.close
     (tie.spec
     enum-told
-    below-requires
+    cmp-requires
+    is-less-requires
     enum-told-2
     slice-aggregate-joined-below
     joined-below-requires

@@ -1,8 +1,6 @@
 -- `keys::key_types::key_below` meets its contract.
-use mathlib.Core.Path.{ap, _∙_}
-use Rattle.keys.specs.Answers.{saysLess}
 use Rattle.keys.specs.Order.{below}
-use Rattle.keys.proofs.AnswerLaws.{says-less}
+use Rattle.keys.proofs.AnswerLaws.{less-told}
 use borrow.Author.Needs.{needs}
 use Rattle.keys.proofs.key_types.key_below.Statement.{statement}
 use Rattle.keys.proofs.key_types.key_below.Tie as tie
@@ -15,7 +13,7 @@ is-less-requires c κs = search needs
 
 returns : tie.Need-returns
 unfolding below
-returns c = c .is-less .ensures ∙ ap saysLess (c .before .cmp-internal-key .ensures) ∙ says-less _
+returns c = less-told _ (c .is-less .ensures) (c .before .cmp-internal-key .ensures)
 
 pub key-below-spec : {M : Type 1} → statement M
 key-below-spec = tie.close (tie.spec cmp-internal-key-requires is-less-requires returns)
