@@ -1,61 +1,24 @@
--- A block in a table: where its entries end, that it is well formed, and that its keys rise.
+-- A block in a table: that it is well formed, and that its keys rise.
 use Prim.Native.Nat.{ℕ, _+_, _-_, _≤_}
 use mathlib.Core.Path.{_≡_, refl, sym, ap, _∙_}
 use mathlib.Core.Bool.{Bool, true, false, false≢true}
-use mathlib.Core.List.{List, []}
+use mathlib.Core.List.{List}
 use mathlib.Core.Option.{Option, none, some}
-use native.Mathlib.Omega.{arith}
 use lib.ListN.{length, take, drop}
 use Rattle.codec.specs.Bytes.{part}
 use Rattle.codec.specs.Checksum.{trailerStands}
 use Rattle.codec.proofs.BytesLaws.{part-between}
 use Rattle.codec.proofs.TrailerLaws.{stands-within}
 use Rattle.codec.proofs.Prelude.{is-true}
-use Rattle.block_reader.specs.declared.block.RowsRead.the-variants as RowsCase
 use Rattle.blocks.specs.Block.{Entry, pairsOf}
 use Rattle.blocks.specs.Formed.{Kind, wellFormed, isFormed, rises}
 use Rattle.blocks.specs.Search.{readable}
-use Rattle.block_reader.specs.Steps.{Rows, rowsOf, rowsAnswer, Laid, readFrom}
 use Rattle.blocks.proofs.FormedLaws.{formed-readable}
-use Rattle.block_reader.proofs.LayoutLaws.{rows-said, laid}
-use Rattle.block_reader.proofs.SeekLaws.{never-read, read-whole}
 use Rattle.table.specs.Checked.{Checked, pass, refuse, _>>=_, ask, orRefuse}
 use Rattle.table.specs.Table.{contents, sealed, lessOf, sortedIn, sortedAt}
 use Rattle.table.proofs.CheckedLaws.{passing, asking, orRefuse-pass, pass-same}
 use Rattle.full_check.specs.declared.check.Verdict.the-variants as VerdictCase
-use Rattle.full_check.specs.Steps.{endOf, Judged}
-
--- ---- where the entries end
-
-pub end-none : (s : List ℕ) → rowsAnswer (rowsOf s) ≡ RowsCase.Bad → 0 ≡ endOf s
-unfolding endOf
-end-none s e = rw (rows-said (rowsOf s) e, endOf)
-
-pub end-rows : (s : List ℕ) {end count : ℕ} → rowsAnswer (rowsOf s) ≡ RowsCase.Rows end count → end ≡ endOf s
-unfolding endOf
-end-rows s e = rw (rows-said (rowsOf s) e, endOf)
-
--- a layout, where there is one
-with-rows : {C : Type 0} (s : List ℕ) → (rowsAnswer (rowsOf s) ≡ RowsCase.Bad → C) → ((w : Rows) → Laid s (w .end) (w .count) → endOf s ≡ w .end → C) → C
-unfolding rowsAnswer endOf
-with-rows {C} s f g = go (rowsOf s) refl
-  where
-    go : (o : Option Rows) → rowsOf s ≡ o → C
-    go none e = f (ap rowsAnswer e)
-    go (some w) e = g w (laid s (ap rowsAnswer e)) (rw (e, endOf))
-
-pub end-within : (s : List ℕ) → endOf s ≤ length s
-end-within s =
-    with-rows s
-    (λ e. omega (arith, end-none s e))
-    (λ w l e. omega (arith, l .fits))
-
--- so these are the entries
-pub end-reads : (s : List ℕ) {es : List Entry} → readable s ≡ some es → readFrom (take (endOf s) s) 0 [] ≡ some es
-end-reads s {es} read =
-    with-rows s
-    (λ e. absurd (never-read s e read))
-    (λ w l e. rw e (read-whole s l read))
+use Rattle.full_check.specs.Steps.{Judged}
 
 -- ---- well-formed blocks
 
@@ -63,7 +26,7 @@ end-reads s {es} read =
 pub record Formed (kind : Kind) (s : List ℕ) : Type 0 where
   pub entries : List Entry
   pub is : wellFormed kind s ≡ some entries
-  pub reads : readFrom (take (endOf s) s) 0 [] ≡ some entries
+  pub reads : readable s ≡ some entries
 
 pub formed : (kind : Kind) (s : List ℕ) → isFormed kind s ≡ true → Formed kind s
 unfolding isFormed
@@ -71,11 +34,7 @@ formed kind s f = go (wellFormed kind s) refl f
   where
     go : (o : Option (List Entry)) → wellFormed kind s ≡ o → elim o as (λ (_ : Option (List Entry)). Bool) [ none ↦ false | some es ↦ true ] ≡ true → Formed kind s
     go none e f = absurd (false≢true f)
-    go (some es) e f = record { entries = es; is = e; reads = end-reads s (formed-readable kind s e) }
-
--- its entries, where code found that they end
-pub formed-to : {kind : Kind} {s : List ℕ} (f : Formed kind s) {end : ℕ} → end ≡ endOf s → readFrom (take end s) 0 [] ≡ some (f .entries)
-formed-to f e = rw e (f .reads)
+    go (some es) e f = record { entries = es; is = e; reads = formed-readable kind s e }
 
 pub not-formed : (kind : Kind) (s : List ℕ) → isFormed kind s ≡ false → wellFormed kind s ≡ none
 unfolding isFormed

@@ -9,7 +9,7 @@ use Rattle.codec.specs.Varint.{Handle}
 use Rattle.keys.specs.Order.{userOf, below}
 use Rattle.blocks.specs.Block.{Pair, lastKeyOf, Entry, pairsOf}
 use Rattle.blocks.specs.Formed.{Kind, dataBlock, indexBlock, metaBlock, all, rises, wellFormed}
-use Rattle.block_reader.specs.Steps.{rowsOf, readFrom}
+use Rattle.block_reader.specs.Steps.{readFrom}
 use Rattle.filters.specs.Filter.{hash}
 use Rattle.filters.specs.FilterBlock.{mayMatch}
 use Rattle.table.specs.Checked.{Checked, pass, refuse, _>>=_, ask, orRefuse}
@@ -20,10 +20,6 @@ use Rattle.full_check.specs.declared.check.Rising.{Rising}
 use Rattle.full_check.specs.declared.check.Rising.the-variants as RisingCase
 use Rattle.full_check.specs.declared.check.Verdict.{Verdict}
 use Rattle.full_check.specs.declared.check.Verdict.the-variants as VerdictCase
-
--- where a block's entries end; 0 without a layout
-unfoldable pub endOf : List ℕ → ℕ
-endOf s = elim (rowsOf s) [ none ↦ 0 | some w ↦ w .end ]
 
 -- ---- the keys of a block
 

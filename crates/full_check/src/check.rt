@@ -15,7 +15,7 @@ ghost use Rattle.filters.specs.Filter.{hash};
 ghost use Rattle.filters.specs.FilterBlock.{mayMatch};
 ghost use Rattle.table.specs.Table.{follows, firstFollows, bloomHandle, handleOf, fullCheck, lessOf, sortedIn, sortedAt};
 ghost use Rattle.full_check.specs.Answers.{verdictOf};
-ghost use Rattle.full_check.specs.Steps.{endOf, after, Tested, edgeOf, ordered, lets, Judged, dataIn, dataAt, DataJudged, blocksAt, withFilter, afterFooter};
+ghost use Rattle.full_check.specs.Steps.{after, Tested, edgeOf, ordered, lets, Judged, dataIn, dataAt, DataJudged, blocksAt, withFilter, afterFooter};
 use block_reader::block::EntryRead;
 use block_reader::block::Kind;
 use block_reader::block::RowsRead;
@@ -46,13 +46,13 @@ struct Place {
     size: usize,
 }
 
-// Where the entries of a block end; 0 if it has no layout.
-fn entries_end(s: &[u8]) -> usize
-    ensures { λ r. ⌜ r ≡ endOf (now (s .entry)) ⌝ }
+// The part of a block that its entries fill; none of it without a layout.
+fn entries(s: &[u8]) -> &[u8]
+    ensures { λ r. ⌜ ((es : List Entry) → readable (now (s .entry)) ≡ some es → readFrom (now r) 0 [] ≡ some es) ⌝ }
 {
     match block_reader::block::layout(s) {
-        RowsRead::Bad => 0,
-        RowsRead::Rows { end, count: _ } => end,
+        RowsRead::Bad => &s[..0],
+        RowsRead::Rows { end, count: _ } => &s[..end],
     }
 }
 
@@ -119,9 +119,8 @@ fn sorted_in(s: &[u8], kind: Kind) -> Verdict
     if block_reader::block::is_formed(s, kind) {} else {
         return Verdict::Refused(10);
     }
-    let end = entries_end(s);
     let mut last = [0u8; 1032];
-    match keys_rise(&s[..end], kind, &mut last) {
+    match keys_rise(entries(s), kind, &mut last) {
         Rising::No => Verdict::Refused(11),
         Rising::Yes(_) => Verdict::Pass,
     }
@@ -258,8 +257,7 @@ fn data_in(
     if block_reader::block::is_formed(s, Kind::Data) {} else {
         return DataRead::Refused(10);
     }
-    let end = entries_end(s);
-    let d = &s[..end];
+    let d = entries(s);
     match in_order(d, first, before, last, last_len, bound) {
         Rising::No => DataRead::Refused(11),
         Rising::Yes(n) => {
@@ -371,8 +369,7 @@ fn blocks_in(table: &[u8], filter: &[u8], d: &[u8]) -> Verdict
 fn blocks(table: &[u8], filter: &[u8], index: &[u8]) -> Verdict
     ensures { λ r. ⌜ ((es : List Entry) → readable (now (index .entry)) ≡ some es → r ≡ verdictOf (blocksAt (now (table .entry)) (now (filter .entry)) none (pairsOf es))) ⌝ }
 {
-    let end = entries_end(index);
-    blocks_in(table, filter, &index[..end])
+    blocks_in(table, filter, entries(index))
 }
 
 // The filter block, 8, 9, 12, and then the data blocks.
