@@ -71,10 +71,6 @@ module _ (t filter : List ℕ) (before : Option Edge) (ix : List ℕ) (offset si
 
 -- ---- all data blocks
 
--- the handle of an index value, by its numbers
-pub handle-same : (v : List ℕ) {a b : ℕ} → a ≡ handleOf v .offset → b ≡ handleOf v .size → record { offset = a; size = b } ≡ handleOf v
-handle-same v p q = λ i. record { offset = p i; size = q i }
-
 -- what is left of the blocks, after what the one before left, comes to the whole
 abbrev pub BlocksLeft : List ℕ → List ℕ → Bool → List ℕ → List ℕ → List Entry → List Entry → Type 0
 BlocksLeft t filter first i l es rest = blocksAt t filter none (pairsOf es) ≡ blocksAt t filter (edgeOf first i l) (pairsOf rest)

@@ -138,10 +138,10 @@ module _ (before : Option Edge) (ix : List ℕ) (ps : List Pair) where
 
 -- ---- an index value
 
-pub handle-bad : (s : List ℕ) → oneHandleAnswer (oneHandle s) ≡ OneCase.None → (0 ≡ handleOf s .offset) × (0 ≡ handleOf s .size)
+pub handle-bad : (s : List ℕ) → oneHandleAnswer (oneHandle s) ≡ OneCase.None → record { offset = 0; size = 0 } ≡ handleOf s
 unfolding handleOf
-handle-bad s e = rw (one-said (oneHandle s) e, handleOf) (refl, refl)
+handle-bad s e = rw (one-said (oneHandle s) e, handleOf)
 
-pub handle-is : (s : List ℕ) {a b : ℕ} → oneHandleAnswer (oneHandle s) ≡ OneCase.Handle a b → (a ≡ handleOf s .offset) × (b ≡ handleOf s .size)
+pub handle-is : (s : List ℕ) {a b : ℕ} → oneHandleAnswer (oneHandle s) ≡ OneCase.Handle a b → record { offset = a; size = b } ≡ handleOf s
 unfolding handleOf
-handle-is s e = rw (one-said (oneHandle s) e, handleOf) (refl, refl)
+handle-is s e = rw (one-said (oneHandle s) e, handleOf)

@@ -306,7 +306,7 @@ fn data_at(
 
 // The handle of an index value.
 fn handle_of(value: &[u8]) -> Place
-    ensures { λ r. ⌜ (r .offset ≡ handleOf (now (value .entry)) .offset) × (r .size ≡ handleOf (now (value .entry)) .size) ⌝ }
+    ensures { λ r. ⌜ record { offset = r .offset; size = r .size } ≡ handleOf (now (value .entry)) ⌝ }
 {
     match codec::blockhandle::one_handle(value) {
         OneHandle::None => Place { offset: 0, size: 0 },

@@ -20,7 +20,7 @@ use Rattle.full_check.specs.declared.check.Verdict.the-variants as Verdi
 use Rattle.full_check.specs.Answers.{verdictOf}
 use Rattle.full_check.specs.Steps.{edgeOf, dataAt, DataJudged, blocksAt}
 use Rattle.codec.proofs.PutLaws.{put-start}
-use Rattle.full_check.proofs.DataLaws.{handle-same, BlocksLeft, blocks-start, blocks-end, blocks-stop, blocks-more}
+use Rattle.full_check.proofs.DataLaws.{BlocksLeft, blocks-start, blocks-end, blocks-stop, blocks-more}
 use borrow.Author.Needs.{needs}
 use Rattle.full_check.proofs.check.blocks_in.Statement.{statement}
 use Rattle.full_check.proofs.check.blocks_in.Tie as tie
@@ -77,7 +77,7 @@ abbrev last′ : A → List ℕ
 last′ c = c .data-at .last .1 .1 .1 .1 .0
 
 named : (c : A) → at c ≡ handleOf (entry (c .before .before .before .before .before .before) .step .here .value)
-named c = handle-same _ (c .before .before .before .before .handle-of .ensures .0) (c .before .before .before .before .handle-of .ensures .1) ∙ ap handleOf (value-lent (entry (c .before .before .before .before .before .before)))
+named c = c .before .before .before .before .handle-of .ensures ∙ ap handleOf (value-lent (entry (c .before .before .before .before .before .before)))
 
 abbrev checked : A → Checked (List Pair)
 checked c = dataAt (T (lp (c .before .before .before .before .before .before))) (F (lp (c .before .before .before .before .before .before))) (edge (lp (c .before .before .before .before .before .before))) (take (n (c .before .before .before .before .before .before)) (key′ (c .before .before .before .before .before .before))) (at c)
