@@ -365,16 +365,9 @@ fn blocks_in(table: &[u8], filter: &[u8], d: &[u8]) -> Verdict
     Verdict::Pass
 }
 
-// The data blocks that an index names.
-fn blocks(table: &[u8], filter: &[u8], index: &[u8]) -> Verdict
-    ensures { λ r. ⌜ ((es : List Entry) → readable (now (index .entry)) ≡ some es → r ≡ verdictOf (blocksAt (now (table .entry)) (now (filter .entry)) none (pairsOf es))) ⌝ }
-{
-    blocks_in(table, filter, entries(index))
-}
-
-// The filter block, 8, 9, 12, and then the data blocks.
-fn filtered(table: &[u8], index: &[u8], offset: usize, size: usize) -> Verdict
-    ensures { λ r. ⌜ ((es : List Entry) → readable (now (index .entry)) ≡ some es → r ≡ verdictOf (withFilter (now (table .entry)) (some (record { offset = offset; size = size })) (pairsOf es))) ⌝ }
+// The filter block, 8, 9, 12, and then those data blocks.
+fn filtered(table: &[u8], d: &[u8], offset: usize, size: usize) -> Verdict
+    ensures { λ r. ⌜ ((es : List Entry) → readFrom (now (d .entry)) 0 [] ≡ some es → r ≡ verdictOf (withFilter (now (table .entry)) (some (record { offset = offset; size = size })) (pairsOf es))) ⌝ }
 {
     if table_block::footer::placed(table.len(), offset, size) {} else {
         return Verdict::Refused(8);
@@ -387,16 +380,16 @@ fn filtered(table: &[u8], index: &[u8], offset: usize, size: usize) -> Verdict
     if filter_block::filter_block::is_formed(filter) {} else {
         return Verdict::Refused(12);
     }
-    blocks(table, filter, index)
+    blocks_in(table, filter, d)
 }
 
-// The filter that a metaindex names, and then the data blocks. Without a filter its bytes are none, and they deny nothing.
-fn rest(table: &[u8], metaindex: &[u8], index: &[u8]) -> Verdict
-    ensures { λ r. ⌜ ((ms es : List Entry) → readable (now (metaindex .entry)) ≡ some ms → readable (now (index .entry)) ≡ some es → r ≡ verdictOf (withFilter (now (table .entry)) (bloomHandle (pairsOf ms)) (pairsOf es))) ⌝ }
+// The filter that a metaindex names, and then those data blocks. Without a filter its bytes are none, and they deny nothing.
+fn rest(table: &[u8], metaindex: &[u8], d: &[u8]) -> Verdict
+    ensures { λ r. ⌜ ((ms es : List Entry) → readable (now (metaindex .entry)) ≡ some ms → readFrom (now (d .entry)) 0 [] ≡ some es → r ≡ verdictOf (withFilter (now (table .entry)) (bloomHandle (pairsOf ms)) (pairsOf es))) ⌝ }
 {
     match table_block::table_block::bloom_handle(metaindex) {
-        OneHandle::None => blocks(table, b"", index),
-        OneHandle::Handle { offset, size } => filtered(table, index, offset, size),
+        OneHandle::None => blocks_in(table, b"", d),
+        OneHandle::Handle { offset, size } => filtered(table, d, offset, size),
     }
 }
 
@@ -420,7 +413,7 @@ fn after_footer(
                 rest(
                     table,
                     &table[meta_offset..meta_end],
-                    &table[index_offset..index_end],
+                    entries(&table[index_offset..index_end]),
                 )
             }
         },

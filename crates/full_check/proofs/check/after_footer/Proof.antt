@@ -90,14 +90,17 @@ part-rest-start c = search needs
 part-rest-end : tie.Need-part-rest-end
 part-rest-end c = omega (arith, meta-read c .within)
 
-sub-rest-2 : tie.Need-sub-rest-2
-sub-rest-2 c = search needs
+sub-entries : tie.Need-sub-entries
+sub-entries c = search needs
 
-part-rest-start-2 : tie.Need-part-rest-start-2
-part-rest-start-2 c = search needs
+part-entries-start : tie.Need-part-entries-start
+part-entries-start c = search needs
 
-part-rest-end-2 : tie.Need-part-rest-end-2
-part-rest-end-2 c = omega (arith, index-read (c .before) .within)
+part-entries-end : tie.Need-part-entries-end
+part-entries-end c = omega (arith, index-read (c .before) .within)
+
+entries-requires : tie.Need-entries-requires
+entries-requires c κs = search needs
 
 rest-requires : tie.Need-rest-requires
 rest-requires c κs = search needs
@@ -110,8 +113,8 @@ returns-2 c = refused (index-refused _ _ _ (meta-said (c .before .before .before
 
 returns-3 : tie.Need-returns-3
 returns-3 c =
-    let p = c .before .before .before in
-    c .rest .ensures (meta-pass p .0) (index-pass p .0) (meta-read p .reads) (index-read p .reads) ∙ ap verdictOf (sym (both-sorted _ _ _ (meta-pass p .1) (index-pass p .1)))
+    let p = c .before .before .before .before in
+    c .rest .ensures (meta-pass p .0) (index-pass p .0) (meta-read p .reads) (c .before .entries .ensures (index-pass p .0) (index-read p .reads)) ∙ ap verdictOf (sym (both-sorted _ _ _ (meta-pass p .1) (index-pass p .1)))
 
 pub after-footer-spec : {M : Type 1} → statement M
 after-footer-spec =
@@ -128,9 +131,10 @@ after-footer-spec =
     sub-rest
     part-rest-start
     part-rest-end
-    sub-rest-2
-    part-rest-start-2
-    part-rest-end-2
+    sub-entries
+    part-entries-start
+    part-entries-end
+    entries-requires
     rest-requires
     returns
     returns-2

@@ -39,11 +39,11 @@ is-formed-requires c κs = search needs
 returns-3 : tie.Need-returns-3
 returns-3 c = λ es read. refused (filter-malformed _ _ _ _ (sym (c .before .before .before .before .before .before .placed .ensures) ∙ c .before .before .before .before .before .if1 .taken) (sym (c .before .before .before .before .trailer-stands .ensures) ∙ c .before .before .before .if2 .taken) (sym (c .before .is-formed .ensures) ∙ c .if3 .left))
 
-blocks-requires : tie.Need-blocks-requires
-blocks-requires c κs = search needs
+blocks-in-requires : tie.Need-blocks-in-requires
+blocks-in-requires c κs = search needs
 
 returns-4 : tie.Need-returns-4
-returns-4 c = λ es read. c .blocks2 .ensures es read ∙ ap verdictOf (sym (filter-stands _ _ _ _ (sym (c .before .before .before .before .before .before .before .placed .ensures) ∙ c .before .before .before .before .before .before .if1 .taken) (sym (c .before .before .before .before .before .trailer-stands .ensures) ∙ c .before .before .before .before .if2 .taken) (sym (c .before .before .is-formed .ensures) ∙ c .before .if3 .taken)))
+returns-4 c = λ es read. c .blocks-in .ensures es read ∙ ap verdictOf (sym (filter-stands _ _ _ _ (sym (c .before .before .before .before .before .before .before .placed .ensures) ∙ c .before .before .before .before .before .before .if1 .taken) (sym (c .before .before .before .before .before .trailer-stands .ensures) ∙ c .before .before .before .before .if2 .taken) (sym (c .before .before .is-formed .ensures) ∙ c .before .if3 .taken)))
 
 pub filtered-spec : {M : Type 1} → statement M
 filtered-spec =
@@ -59,5 +59,5 @@ filtered-spec =
     part-filter-end
     is-formed-requires
     returns-3
-    blocks-requires
+    blocks-in-requires
     returns-4)

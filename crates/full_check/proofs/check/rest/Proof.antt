@@ -17,11 +17,11 @@ bloom-handle-requires c κs = search needs
 enum-told : tie.Need-enum-told
 enum-told c = search needs
 
-slice-aggregate-blocks : tie.Need-slice-aggregate-blocks
-slice-aggregate-blocks c = search needs
+slice-aggregate-blocks-in : tie.Need-slice-aggregate-blocks-in
+slice-aggregate-blocks-in c = search needs
 
-blocks-requires : tie.Need-blocks-requires
-blocks-requires c κs = search needs
+blocks-in-requires : tie.Need-blocks-in-requires
+blocks-in-requires c κs = search needs
 
 enum-known-offset : tie.Need-enum-known-offset
 enum-known-offset c = search needs
@@ -32,7 +32,7 @@ filtered-requires c κs = search needs
 returns : tie.Need-returns
 returns c =
     let t = c .before .before .before .before .before .before .before .before .args .table .now in
-    λ ms es meta read. c .blocks2 .ensures es read ∙ ap verdictOf (sym (ap (λ (o : Option Handle). withFilter t o (pairsOf es)) (one-said _ (sym (c .before .before .before .before .bloom-handle .ensures .answer ms meta) ∙ c .before .before .enum-told .given .1)) ∙ no-filter t (pairsOf es)))
+    λ ms es meta read. c .blocks-in .ensures es read ∙ ap verdictOf (sym (ap (λ (o : Option Handle). withFilter t o (pairsOf es)) (one-said _ (sym (c .before .before .before .before .bloom-handle .ensures .answer ms meta) ∙ c .before .before .enum-told .given .1)) ∙ no-filter t (pairsOf es)))
 
 returns-2 : tie.Need-returns-2
 returns-2 c =
@@ -45,8 +45,8 @@ rest-spec =
     (tie.spec
     bloom-handle-requires
     enum-told
-    slice-aggregate-blocks
-    blocks-requires
+    slice-aggregate-blocks-in
+    blocks-in-requires
     enum-known-offset
     filtered-requires
     returns
