@@ -118,11 +118,11 @@ module _ (s : Builder) (l : Lengths) (x : Builder) (y : FilterSizes) where
   ending-large e f = ending-not (λ w. rw (sym e ∙ f))
 
   module _ (k : Small s) {t r : Bool} (e : t ≡ small s) (g : t ≡ true) (size : ℕ) (last : Builder) (f : FilterSizes) (es : Whole s → size ≡ finishedSize (optionsOf (s .options)) (countsIn s)) (el : last ≡ lastState s)
-      (ef : filterCountIn f ≡ countLast (choiceOf (s .options .filter)) (record { bytes = last .filtered; made = last .made; waiting = last .waiting }))
+      (ef : filterCountIn f ≡ countLast (choiceOf (s .options .filter)) (filterCountIn (filtersIn last)))
       (er : r ≡ leb size (l .out) && (leb (f .bytes) (l .filters) && (leb (f .made) (l .offsets) && leb (last .indexed .bytes) (l .index)))) where
     sizes-is : filterCountIn f ≡ lastFilters s
-    unfolding lastFilters filtersIn
-    sizes-is = ef ∙ ap (λ (d : Builder). countLast (choiceOf (s .options .filter)) (record { bytes = d .filtered; made = d .made; waiting = d .waiting })) el
+    unfolding lastFilters
+    sizes-is = ef ∙ ap (λ (d : Builder). countLast (choiceOf (s .options .filter)) (filterCountIn (filtersIn d))) el
 
     small-yes : small s ≡ true
     small-yes = sym e ∙ g

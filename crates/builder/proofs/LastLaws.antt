@@ -118,7 +118,7 @@ module _ (o : Options) (more : List Addition) (b : Building) (s : Builder) (r : 
   end-filters = sym (last-filters o b)
 
   counts-end : lastFilters s ≡ filterCountOf (o .filtering) (lastFilter fs)
-  unfolding lastFilters filtersIn
+  unfolding lastFilters filterCountIn
   counts-end = ap₂ countLast (options-are s o (t .options) .1) (filters-is last-counted) ∙ sym (count-last (o .filtering) fs)
 
   table-most : length (written o (c .closed)) ≤ length (Build.finish o b)
@@ -341,13 +341,13 @@ module _ (s : Builder) (r : Runs) {n : ℕ} (q : n ≡ earlyOf s (lengthsOf r) t
 
     module _ (k : p .answer ≡ 0) where
       pub finish-ready : Small s × (EndFits (p .last) (p .sizes) (length (r .filters)) (length (r .offsets)) (length (r .index)) × (p .last .made < 2 ^ 63))
-      unfolding lengthsOf lastFilters filtersIn
+      unfolding lengthsOf lastFilters
       finish-ready =
           let x = sane-is s (lengthsOf r) (finish-is-sane z) in
           let m = g .small k in
           let l = last-short s (x .len) in
           let w = g .within k in
-          let ef = g .sizes k ∙ ap (λ (d : Builder). countLast (choiceOf (s .options .filter)) (record { bytes = d .filtered; made = d .made; waiting = d .waiting })) (sym (g .last k)) in
+          let ef = g .sizes k ∙ ap (λ (d : Builder). countLast (choiceOf (s .options .filter)) (filterCountIn (filtersIn d))) (sym (g .last k)) in
           let v = Size.last-sizes s m l (p .last) (p .sizes) (g .last k) ef in (
             m,
             (

@@ -36,7 +36,7 @@ use Rattle.builder.specs.declared.table_builder.FilterSizes.{FilterSizes
 use Rattle.builder.specs.declared.table_builder.Close.{Close}
 use Rattle.builder.specs.declared.table_builder.Sizes.{Sizes}
 use Rattle.builder.specs.State.{optionsOf, countsIn}
-use Rattle.builder.specs.Steps.{small, Small, filterCountIn, filtersIn, openSize, lastOf, endsAt, closeIn, closedState, Roomy, enteredState, lastState, sizesIn, Whole}
+use Rattle.builder.specs.Steps.{small, Small, filterCountIn, filterSizes, filtersIn, openSize, lastOf, endsAt, closeIn, closedState, Roomy, enteredState, lastState, sizesIn, Whole}
 
 -- ---- one entry more
 
@@ -112,14 +112,14 @@ module _ (s : Builder) (h : Small s) where
   -- it closed, in numbers
   pub close-is : {size a b : ℕ} {f : FilterSizes}
       → size ≡ min (2 ^ 64 - 1) (countSize (countIn (s .pending))) → a ≡ length (varintBytes (s .written)) → b ≡ length (varintBytes size)
-      → filterCountIn f ≡ countMade (choiceOf (s .options .filter)) ((s .written + size + 5) / 2048) (record { bytes = s .filtered; made = s .made; waiting = s .waiting })
-      → _≡_ {A = Close} (record { end = s .written + size + 5; handle = a + b; filtered = f .bytes; made = f .made; waiting = f .waiting }) (closeIn s)
-  unfolding closeIn endsAt countUpTo filtersIn filterCountIn handleSize
+      → filterCountIn f ≡ countMade (choiceOf (s .options .filter)) ((s .written + size + 5) / 2048) (filterCountIn (filtersIn s))
+      → _≡_ {A = Close} (record { end = s .written + size + 5; handle = a + b; filters = f }) (closeIn s)
+  unfolding closeIn endsAt countUpTo filterCountIn filterSizes handleSize
   close-is {size} {a} {b} es ea eb ef =
       let x : size ≡ openSize s = size-exact es in
       let v : a + b ≡ varintSize (s .written) + varintSize (openSize s) = ap₂ _+_ ea (eb ∙ ap (λ (n : ℕ). length (varintBytes n)) x) in
-      let g = ef ∙ ap (λ (n : ℕ). countMade (choiceOf (s .options .filter)) ((s .written + n + 5) / 2048) (record { bytes = s .filtered; made = s .made; waiting = s .waiting })) x in
-      λ j. record { end = s .written + x j + 5; handle = v j; filtered = g j .bytes; made = g j .made; waiting = g j .waiting }
+      let g = ef ∙ ap (λ (n : ℕ). countMade (choiceOf (s .options .filter)) ((s .written + n + 5) / 2048) (filterCountIn (filtersIn s))) x in
+      λ j. record { end = s .written + x j + 5; handle = v j; filters = filterSizes (g j) }
 
   handle-most : closeIn s .handle ≤ 20
   unfolding closeIn handleSize
@@ -139,9 +139,9 @@ module _ (s : Builder) (h : Small s) where
           written = c .end;
           pending = e;
           indexed = r .block;
-          filtered = c .filtered;
-          made = c .made;
-          waiting = c .waiting;
+          filtered = c .filters .bytes;
+          made = c .filters .made;
+          waiting = c .filters .waiting;
           finished = s .finished;
         })
         (closedState s key)
@@ -155,9 +155,9 @@ module _ (s : Builder) (h : Small s) where
           written = ec j .end;
           pending = ee j;
           indexed = i j;
-          filtered = ec j .filtered;
-          made = ec j .made;
-          waiting = ec j .waiting;
+          filtered = ec j .filters .bytes;
+          made = ec j .filters .made;
+          waiting = ec j .filters .waiting;
           finished = s .finished;
         }
 
@@ -210,10 +210,10 @@ module _ (s : Builder) (h : Small s) where
   bounded-same = omega (arith, h .written, h .indexBytes, h .indexRestarts, h .filtered, h .made, h .waiting)
 
   pub bounded-closed : (key : List ℕ) → length key ≤ 1032 → Bounded (closedState s key)
-  unfolding closedState closeIn endsAt countUpTo filtersIn builderAfter builderWith handleSize countIn
+  unfolding closedState closeIn endsAt countUpTo filterCountIn filterSizes builderAfter builderWith handleSize countIn
   bounded-closed key k =
       let c = choiceOf (s .options .filter) in
-      let f : FilterCount = record { bytes = s .filtered; made = s .made; waiting = s .waiting } in
+      let f = filterCountIn (filtersIn s) in
       let n = (s .written + openSize s + 5) / 2048 in
       let v = varintSize (s .written) + varintSize (openSize s) in
       let w : v ≤ 20 = omega (arith, varint-bytes-length (s .written), varint-bytes-length (openSize s)) in
@@ -244,7 +244,7 @@ module _ (s : Builder) (h : Small s) (w : Whole s) where
   o = optionsOf (s .options)
 
   pub closed-counts : (key : List ℕ) → length key ≤ 1032 → countsIn (closedState s key) ≡ countClose o key (countsIn s)
-  unfolding countsIn closedState closeIn countClose optionsOf indexInterval endsAt openSize filtersIn
+  unfolding countsIn closedState closeIn countClose optionsOf indexInterval endsAt openSize filterCountIn filterSizes
   closed-counts key k =
       let n = s .options .interval in
       let v = handleSize (s .written) (countSize (countIn (s .pending))) in
@@ -253,7 +253,7 @@ module _ (s : Builder) (h : Small s) (w : Whole s) where
         written = s .written + countSize (countIn (s .pending)) + 5;
         openBlock = new-counts n j;
         index = x j;
-        filters = countUpTo (choiceOf (s .options .filter)) (s .written + countSize (countIn (s .pending)) + 5) (record { bytes = s .filtered; made = s .made; waiting = s .waiting });
+        filters = countUpTo (choiceOf (s .options .filter)) (s .written + countSize (countIn (s .pending)) + 5) (filterCountIn (filtersIn s));
       }
 
   pub last-counts : length (lastOf s) ≤ 1032 → countsIn (lastState s) ≡ countCloseLast o (countsIn s)
@@ -264,13 +264,13 @@ module _ (s : Builder) (h : Small s) (w : Whole s) where
       go zero e = rw (← last-none s e) (cc)
       go (suc n) e = rw (← last-some s (λ z. omega arith)) (closed-counts (lastOf s) k ∙ (cc))
 
-  block-size : (c : Filtering) (d : Builder) (f : FilterSizes) → filterCountIn f ≡ countLast c (record { bytes = d .filtered; made = d .made; waiting = d .waiting })
+  block-size : (c : Filtering) (d : Builder) (f : FilterSizes) → filterCountIn f ≡ countLast c (filterCountIn (filtersIn d))
       → filterBlockSize (countLast c (countsIn d .filters)) ≡ f .bytes + 4 * f .made + 5
   unfolding countsIn filterBlockSize filterCountIn
   block-size c d f ef = sym (ap filterBlockSize ef)
 
   pub finished-is : length (lastOf s) ≤ 1032 → (d : Builder) (f : FilterSizes) {index : ℕ} → d ≡ lastState s
-      → filterCountIn f ≡ countLast (choiceOf (s .options .filter)) (record { bytes = d .filtered; made = d .made; waiting = d .waiting })
+      → filterCountIn f ≡ countLast (choiceOf (s .options .filter)) (filterCountIn (filtersIn d))
       → index ≡ countSize (countIn (d .indexed))
       → endSize (choiceOf (s .options .filter)) (d .written) (f .bytes + 4 * f .made + 5) index ≡ finishedSize o (countsIn s)
   unfolding finishedSize
@@ -282,18 +282,18 @@ module _ (s : Builder) (h : Small s) (w : Whole s) where
 module _ (s : Builder) (h : Small s) where
   -- its sums have 64 bits
   pub last-room : length (lastOf s) ≤ 1032 → (d : Builder) → d ≡ lastState s
-      → (d .filtered + filterBytesOf (choiceOf (s .options .filter)) (d .waiting) ≤ 2 ^ 31) × (d .made ≤ 2 ^ 30)
+      → (filtersIn d .bytes + filterBytesOf (choiceOf (s .options .filter)) (filtersIn d .waiting) ≤ 2 ^ 31) × (filtersIn d .made ≤ 2 ^ 30)
   last-room k d e =
       let b = bounded-last s h k e in
       (omega (arith, b .filtered, b .waiting, filter-most (choiceOf (s .options .filter)) (d .waiting) (h .fits)), b .made)
 
   pub last-sizes : length (lastOf s) ≤ 1032 → (d : Builder) (f : FilterSizes) → d ≡ lastState s
-      → filterCountIn f ≡ countLast (choiceOf (s .options .filter)) (record { bytes = d .filtered; made = d .made; waiting = d .waiting })
+      → filterCountIn f ≡ countLast (choiceOf (s .options .filter)) (filterCountIn (filtersIn d))
       → (f .bytes ≤ 2 ^ 40) × (f .made ≤ 2 ^ 40) × (d .written ≤ 2 ^ 40) × (countSize (countIn (d .indexed)) ≤ 2 ^ 40)
   unfolding filterCountIn countSize countIn
   last-sizes k d f e ef =
       let c = choiceOf (s .options .filter) in
-      let q : FilterCount = record { bytes = d .filtered; made = d .made; waiting = d .waiting } in
+      let q = filterCountIn (filtersIn d) in
       let b = bounded-last s h k e in
       let r = last-room k d e in
       let x : f .bytes ≤ 2 ^ 31 = omega (arith, ap (λ (z : FilterCount). z .bytes) ef, last-most c q .0) in
@@ -329,27 +329,27 @@ module _ (s : Builder) (h : Small s) (key : List ℕ) (k : length key ≤ 1032) 
 
   pub closed-sizes-are : {c : Close} {more : ℕ} → c ≡ closeIn s → more ≡ sizeWith (s .indexed .interval) (countIn (s .indexed)) key (c .handle)
       → _≡_ {A = Sizes}
-      (record { written = c .end; index = more; filtered = c .filtered; made = c .made; waiting = c .waiting })
+      (record { written = c .end; index = more; filters = c .filters })
       (sizesIn (closedState s key))
   closed-sizes-are ec em =
       let i = index-size ec em in
       unfold sizesIn closedState in
-      λ j. record { written = ec j .end; index = i j; filtered = ec j .filtered; made = ec j .made; waiting = ec j .waiting }
+      λ j. record { written = ec j .end; index = i j; filters = ec j .filters }
 
 module _ (s : Builder) (h : Small s) where
-  pub sizes-none : s .pending .restarts ≡ 0 → {n : ℕ} → n ≡ min (2 ^ 64 - 1) (countSize (countIn (s .indexed)))
-      → _≡_ {A = Sizes} (record { written = s .written; index = n; filtered = s .filtered; made = s .made; waiting = s .waiting }) (sizesIn (lastState s))
+  pub sizes-none : s .pending .restarts ≡ 0 → {n : ℕ} {f : FilterSizes} → n ≡ min (2 ^ 64 - 1) (countSize (countIn (s .indexed))) → f ≡ filtersIn s
+      → _≡_ {A = Sizes} (record { written = s .written; index = n; filters = f }) (sizesIn (lastState s))
   unfolding sizesIn
-  sizes-none z {n} e =
+  sizes-none z {n} e ef =
       let i : n ≡ countSize (countIn (s .indexed)) = unfold countSize countIn in omega (arith, h .indexBytes, h .indexRestarts) in
-      rw (← last-none s z) (λ j. record { written = s .written; index = i j; filtered = s .filtered; made = s .made; waiting = s .waiting })
+      rw (← last-none s z) (λ j. record { written = s .written; index = i j; filters = ef j })
 
   module _ (k : length (lastOf s) ≤ 1032) (z : Sizes) (e : z ≡ sizesIn (lastState s)) where
-    pub sizes-room : (z .filtered + filterBytesOf (choiceOf (s .options .filter)) (z .waiting) ≤ 2 ^ 31) × (z .made ≤ 2 ^ 30)
+    pub sizes-room : (z .filters .bytes + filterBytesOf (choiceOf (s .options .filter)) (z .filters .waiting) ≤ 2 ^ 31) × (z .filters .made ≤ 2 ^ 30)
     unfolding sizesIn
     sizes-room = rw e (last-room s h k (lastState s) refl)
 
-    module _ (f : FilterSizes) (ef : filterCountIn f ≡ countLast (choiceOf (s .options .filter)) (record { bytes = z .filtered; made = z .made; waiting = z .waiting })) where
+    module _ (f : FilterSizes) (ef : filterCountIn f ≡ countLast (choiceOf (s .options .filter)) (filterCountIn (z .filters))) where
       pub sizes-fit : (z .written ≤ 2 ^ 40) × (f .bytes ≤ 2 ^ 40) × (f .made ≤ 2 ^ 40) × (z .index ≤ 2 ^ 40)
       unfolding sizesIn
       sizes-fit = let r = last-sizes s h k (lastState s) f refl (rw e at ef) in rw e (r .2, r .0, r .1, r .3)

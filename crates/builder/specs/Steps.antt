@@ -58,8 +58,12 @@ pub record Small (s : Builder) : Type 0 where
 unfoldable pub filterCountIn : FilterSizes → FilterCount
 filterCountIn f = record { bytes = f .bytes; made = f .made; waiting = f .waiting }
 
--- the filters' counts of a state
-unfoldable pub filtersIn : Builder → FilterCount
+-- and back
+unfoldable pub filterSizes : FilterCount → FilterSizes
+filterSizes c = record { bytes = c .bytes; made = c .made; waiting = c .waiting }
+
+-- the filters of a state
+abbrev pub filtersIn : Builder → FilterSizes
 filtersIn s = record { bytes = s .filtered; made = s .made; waiting = s .waiting }
 
 -- the open block's bytes, were it finished now
@@ -77,8 +81,11 @@ endsAt s = s .written + openSize s + 5
 -- what it is when it is closed: where it ends, its handle's bytes, and the filters then
 unfoldable pub closeIn : Builder → Close
 closeIn s =
-    let f = countUpTo (choiceOf (s .options .filter)) (endsAt s) (filtersIn s) in
-    record { end = endsAt s; handle = handleSize (s .written) (openSize s); filtered = f .bytes; made = f .made; waiting = f .waiting }
+    record {
+      end = endsAt s;
+      handle = handleSize (s .written) (openSize s);
+      filters = filterSizes (countUpTo (choiceOf (s .options .filter)) (endsAt s) (filterCountIn (filtersIn s)));
+    }
 
 -- the open block closed, and indexed under a key
 unfoldable pub closedState : Builder → List ℕ → Builder
@@ -90,9 +97,9 @@ closedState s key =
       written = c .end;
       pending = newBuilder (s .options .interval);
       indexed = builderAfter (s .indexed) key (c .handle);
-      filtered = c .filtered;
-      made = c .made;
-      waiting = c .waiting;
+      filtered = c .filters .bytes;
+      made = c .filters .made;
+      waiting = c .filters .waiting;
       finished = s .finished;
     }
 
@@ -133,7 +140,7 @@ pub record Whole (s : Builder) : Type 0 where
 
 -- what the finished table's size is reckoned from in a state
 unfoldable pub sizesIn : Builder → Sizes
-sizesIn s = record { written = s .written; index = countSize (countIn (s .indexed)); filtered = s .filtered; made = s .made; waiting = s .waiting }
+sizesIn s = record { written = s .written; index = countSize (countIn (s .indexed)); filters = filtersIn s }
 
 -- ---- an addition
 
@@ -189,7 +196,7 @@ pub record DecidedIs (s : Builder) (l : Lengths) (key : List ℕ) (value : ℕ) 
 
 -- the filters at the end
 unfoldable pub lastFilters : Builder → FilterCount
-lastFilters s = countLast (choiceOf (s .options .filter)) (filtersIn (lastState s))
+lastFilters s = countLast (choiceOf (s .options .filter)) (filterCountIn (filtersIn (lastState s)))
 
 -- the finished table fits its output, and all that it is written from its runs
 unfoldable pub endable : Builder → Lengths → Bool

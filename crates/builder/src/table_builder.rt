@@ -23,7 +23,7 @@ ghost use Rattle.table.specs.Runs.{roomOf};
 ghost use Rattle.table.specs.Counts.{metaSize, endSize, finishedSize};
 ghost use Rattle.builder.specs.State.{optionsOf, countsIn, seven, runsFit, sameLengths, sizesFit, sane, begun, noBuilder};
 ghost use Rattle.builder.specs.Answers.{StartedIs, AddedIs, FinishedIs};
-ghost use Rattle.builder.specs.Steps.{small, Small, filterCountIn, closeIn, closedState, Roomy, enteredState, lastState, sizesIn, Whole, cutOf, midOf, aboveLast, fitsOf, earlyOf, Ready, DecidedIs, EndingIs};
+ghost use Rattle.builder.specs.Steps.{small, Small, filterCountIn, filtersIn, closeIn, closedState, Roomy, enteredState, lastState, sizesIn, Whole, cutOf, midOf, aboveLast, fitsOf, earlyOf, Ready, DecidedIs, EndingIs};
 ghost use Rattle.builder.specs.Writes.{sealedOut, ClosedOut, ClosedIndex, ClosedFilters, EnteredRuns, LastFilters, Framed, IndexPut, EndFits, EndPut};
 use block_builder::block_builder::BlockBuilder;
 use codec::put::Written;
@@ -320,48 +320,49 @@ struct FilterSizes {
     waiting: usize,
 }
 
-// Filters made until there are n.
-fn made_until(choice: Filter, n: usize, bytes: usize, made: usize, waiting: usize) -> FilterSizes
-    requires { ⌜ bytes + filterBytesOf (choiceOf choice) waiting < 2 ^ 63 ⌝ }
-    ensures { λ r. ⌜ filterCountIn r ≡ countMade (choiceOf choice) n (record { bytes = bytes; made = made; waiting = waiting }) ⌝ }
+// Those of a state.
+fn filters_of(s: Builder) -> FilterSizes
+    ensures { λ r. ⌜ r ≡ filtersIn s ⌝ }
 {
-    if n <= made {
-        return FilterSizes {
-            bytes: bytes,
-            made: made,
-            waiting: waiting,
-        };
-    }
-    let more = filter_block::filter::filter_bytes(choice, waiting);
     FilterSizes {
-        bytes: bytes + more,
+        bytes: s.filtered,
+        made: s.made,
+        waiting: s.waiting,
+    }
+}
+
+// Filters made until there are n.
+fn made_until(choice: Filter, n: usize, f: FilterSizes) -> FilterSizes
+    requires { ⌜ f .bytes + filterBytesOf (choiceOf choice) (f .waiting) < 2 ^ 63 ⌝ }
+    ensures { λ r. ⌜ filterCountIn r ≡ countMade (choiceOf choice) n (filterCountIn f) ⌝ }
+{
+    if n <= f.made {
+        return f;
+    }
+    let more = filter_block::filter::filter_bytes(choice, f.waiting);
+    FilterSizes {
+        bytes: f.bytes + more,
         made: n,
         waiting: 0,
     }
 }
 
 // One filter more if hashes still wait.
-fn last_made(choice: Filter, bytes: usize, made: usize, waiting: usize) -> FilterSizes
-    requires { ⌜ (bytes + filterBytesOf (choiceOf choice) waiting < 2 ^ 63) × (made < 2 ^ 63) ⌝ }
-    ensures { λ r. ⌜ filterCountIn r ≡ countLast (choiceOf choice) (record { bytes = bytes; made = made; waiting = waiting }) ⌝ }
+fn last_made(choice: Filter, f: FilterSizes) -> FilterSizes
+    requires { ⌜ (f .bytes + filterBytesOf (choiceOf choice) (f .waiting) < 2 ^ 63) × (f .made < 2 ^ 63) ⌝ }
+    ensures { λ r. ⌜ filterCountIn r ≡ countLast (choiceOf choice) (filterCountIn f) ⌝ }
 {
-    if waiting == 0 {
-        return FilterSizes {
-            bytes: bytes,
-            made: made,
-            waiting: waiting,
-        };
+    if f.waiting == 0 {
+        return f;
     }
-    made_until(choice, made + 1, bytes, made, waiting)
+    made_until(choice, f.made + 1, f)
 }
 
 // What the open block is when it is closed, in numbers: where it ends, how many bytes its handle has, and the filters then.
 struct Close {
     end: usize,
     handle: usize,
-    filtered: usize,
-    made: usize,
-    waiting: usize,
+    filters: FilterSizes,
 }
 
 // The same of a state.
@@ -375,13 +376,11 @@ fn close_of(s: Builder) -> Close
     let handle = varint_len(s.written) + varint_len(size);
     let options = s.options;
     let filter = options.filter;
-    let f = made_until(filter, end / 2048, s.filtered, s.made, s.waiting);
+    let f = made_until(filter, end / 2048, filters_of(s));
     Close {
         end: end,
         handle: handle,
-        filtered: f.bytes,
-        made: f.made,
-        waiting: f.waiting,
+        filters: f,
     }
 }
 
@@ -397,15 +396,16 @@ fn closed(s: Builder, key: &[u8]) -> Builder
     let options = s.options;
     let lengths = s.lengths;
     let empty = BlockBuilder::new(options.interval);
+    let f = c.filters;
     Builder {
         options: options,
         lengths: lengths,
         written: c.end,
         pending: empty,
         indexed: index,
-        filtered: c.filtered,
-        made: c.made,
-        waiting: c.waiting,
+        filtered: f.bytes,
+        made: f.made,
+        waiting: f.waiting,
         finished: s.finished,
     }
 }
@@ -488,9 +488,7 @@ fn end_size(filter: Filter, written: usize, f: FilterSizes, index: usize) -> usi
 struct Sizes {
     written: usize,
     index: usize,
-    filtered: usize,
-    made: usize,
-    waiting: usize,
+    filters: FilterSizes,
 }
 
 // The same of the state with the open block closed and indexed under the first len bytes of last, without making that state;
@@ -511,12 +509,11 @@ fn closed_sizes(s: Builder, index: &[u8], last: &[u8], len: usize) -> Sizes
         &last[..len],
         c.handle,
     );
+    let f = c.filters;
     Sizes {
         written: c.end,
         index: more,
-        filtered: c.filtered,
-        made: c.made,
-        waiting: c.waiting,
+        filters: f,
     }
 }
 
@@ -531,9 +528,7 @@ fn last_sizes(s: Builder) -> Sizes
         return Sizes {
             written: s.written,
             index: indexed.size_estimate(),
-            filtered: s.filtered,
-            made: s.made,
-            waiting: s.waiting,
+            filters: filters_of(s),
         };
     }
     closed_sizes(s, &indexed.last, &pending.last, pending.len)
@@ -547,7 +542,7 @@ fn finished_size(s: Builder) -> usize
     let d = last_sizes(s);
     let options = s.options;
     let filter = options.filter;
-    let f = last_made(filter, d.filtered, d.made, d.waiting);
+    let f = last_made(filter, d.filters);
     end_size(filter, d.written, f, d.index)
 }
 
@@ -1013,7 +1008,7 @@ fn decide_end(s: Builder, l: Lengths) -> Ending
     let last = closed_last(s);
     let options = s.options;
     let filter = options.filter;
-    let f = last_made(filter, last.filtered, last.made, last.waiting);
+    let f = last_made(filter, filters_of(last));
     let indexed = last.indexed;
     let size = end_size(filter, last.written, f, indexed.size_estimate());
     let runs = both(f.made <= l.offsets, last.indexed.bytes <= l.index);

@@ -24,13 +24,16 @@ varint-len-requires-2 c κs = search needs
 add-handle : tie.Need-add-handle
 add-handle c = omega (arith, varint-bytes-length (c .before .before .before .before .before .args .s .written), varint-bytes-length (c .before .before .before .size-estimate .result))
 
+filters-of-requires : tie.Need-filters-of-requires
+filters-of-requires c κs = search needs
+
 made-until-requires : tie.Need-made-until-requires
-made-until-requires c κs = let a = c .before .before .before .before .before .before in omega (arith, filter-room (a .args .s) (a .pre))
+made-until-requires c κs = let a = c .before .before .before .before .before .before .before in rw (c .filters-of .ensures) (omega (arith, filter-room (a .args .s) (a .pre)))
 
 returns : tie.Need-returns
 returns c =
-    let a = c .before .before .before .before .before .before .before in
-    close-is (a .args .s) (a .pre) (c .before .before .before .before .before .size-estimate .ensures) (c .before .before .before .varint-len .ensures) (c .before .before .varint-len2 .ensures) (c .made-until .ensures)
+    let a = c .before .before .before .before .before .before .before .before in
+    close-is (a .args .s) (a .pre) (c .before .before .before .before .before .before .size-estimate .ensures) (c .before .before .before .before .varint-len .ensures) (c .before .before .before .varint-len2 .ensures) (rw (c .before .filters-of .ensures) at (c .made-until .ensures))
 
 pub close-of-spec : {M : Type 1} → statement M
 close-of-spec =
@@ -42,5 +45,6 @@ close-of-spec =
     varint-len-requires
     varint-len-requires-2
     add-handle
+    filters-of-requires
     made-until-requires
     returns)

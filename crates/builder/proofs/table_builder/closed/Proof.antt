@@ -15,8 +15,8 @@ new-requires c κs = search needs
 
 returns : tie.Need-returns
 returns c =
-    let a = c .before .before .before .before .before .before .before .before in
-    closed-is (a .args .s) (a .pre .0) (a .args .key .now) (a .pre .1) (c .before .before .before .before .before .before .close-of .ensures) (c .before .before .before .before .count .ensures) (c .new .ensures)
+    let a = c .before .before .before .before .before .before .before .before .before in
+    closed-is (a .args .s) (a .pre .0) (a .args .key .now) (a .pre .1) (c .before .before .before .before .before .before .before .close-of .ensures) (c .before .before .before .before .before .count .ensures) (c .before .new .ensures)
 
 pub closed-spec : {M : Type 1} → statement M
 closed-spec = tie.close (tie.spec close-of-requires count-requires new-requires returns)

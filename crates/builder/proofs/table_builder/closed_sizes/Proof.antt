@@ -21,9 +21,9 @@ size-with-requires c κs = search needs
 returns : tie.Need-returns
 unfolding countIn
 returns c =
-    let a = c .before .before .before .before .before .before in
+    let a = c .before .before .before .before .before .before .before in
     let key = take (a .args .len) (a .args .last .now) in
-    closed-sizes-are (a .args .s) (a .pre .0) key (simp length-take (omega (arith, a .pre .3))) (c .before .before .before .close-of .ensures) (rw (a .pre .1) at (c .size-with .ensures))
+    closed-sizes-are (a .args .s) (a .pre .0) key (simp length-take (omega (arith, a .pre .3))) (c .before .before .before .before .close-of .ensures) (rw (a .pre .1) at (c .before .size-with .ensures))
 
 pub closed-sizes-spec : {M : Type 1} → statement M
 closed-sizes-spec =

@@ -9,7 +9,7 @@ use Rattle.builder.proofs.table_builder.last_made.Tie as tie
 
 returns : tie.Need-returns
 unfolding filterCountIn
-returns c = let a = c .before .args in sym (none-waits (choiceOf (a .choice)) (record { bytes = a .bytes; made = a .made; waiting = a .waiting }) (c .if1 .taken))
+returns c = let a = c .before .before .args in sym (none-waits (choiceOf (a .choice)) (filterCountIn (a .f)) (c .if1 .taken))
 
 add-made-until : tie.Need-add-made-until
 add-made-until c = search needs
@@ -18,9 +18,10 @@ made-until-requires : tie.Need-made-until-requires
 made-until-requires c κs = search needs
 
 returns-2 : tie.Need-returns-2
+unfolding filterCountIn
 returns-2 c =
-    let a = c .before .before .args in
-    c .made-until .ensures ∙ sym (some-wait (choiceOf (a .choice)) (record { bytes = a .bytes; made = a .made; waiting = a .waiting }) (c .before .if1 .left))
+    let a = c .before .before .before .before .args in
+    c .made-until .ensures ∙ sym (some-wait (choiceOf (a .choice)) (filterCountIn (a .f)) (c .before .before .if1 .left))
 
 pub last-made-spec : {M : Type 1} → statement M
 last-made-spec = tie.close (tie.spec returns add-made-until made-until-requires returns-2)

@@ -10,8 +10,11 @@ use Rattle.builder.proofs.table_builder.last_sizes.Tie as tie
 size-estimate-requires : tie.Need-size-estimate-requires
 size-estimate-requires c κs = search needs
 
+filters-of-requires : tie.Need-filters-of-requires
+filters-of-requires c κs = search needs
+
 returns : tie.Need-returns
-returns c = sizes-none (c .before .before .before .before .args .s) (c .before .before .before .before .pre .0) (c .before .if1 .taken) (c .size-estimate .ensures)
+returns c = sizes-none (c .before .before .before .before .before .args .s) (c .before .before .before .before .before .pre .0) (c .before .before .if1 .taken) (c .before .size-estimate .ensures) (c .filters-of .ensures)
 
 closed-sizes-requires : tie.Need-closed-sizes-requires
 closed-sizes-requires c κs = let a = c .before .before .before .before .before .before .before .before .before in (a .pre .0, refl, omega (arith, a .pre .1), a .pre .1)
@@ -22,4 +25,4 @@ returns-2 c = c .closed-sizes .ensures ∙ ap sizesIn (last-some (c .before .bef
 
 pub last-sizes-spec : {M : Type 1} → statement M
 last-sizes-spec =
-    tie.close (tie.spec size-estimate-requires returns closed-sizes-requires returns-2)
+    tie.close (tie.spec size-estimate-requires filters-of-requires returns closed-sizes-requires returns-2)

@@ -12,20 +12,20 @@ use Rattle.builder.proofs.table_builder.made_until.Tie as tie
 
 returns : tie.Need-returns
 unfolding filterCountIn
-returns c = let a = c .before .args in sym (made-enough (choiceOf (a .choice)) (a .n) (record { bytes = a .bytes; made = a .made; waiting = a .waiting }) (omega arith))
+returns c = let a = c .before .before .args in sym (made-enough (choiceOf (a .choice)) (a .n) (filterCountIn (a .f)) (omega arith))
 
 filter-bytes-requires : tie.Need-filter-bytes-requires
 filter-bytes-requires c κs = search needs
 
-add-t8 : tie.Need-add-t8
-add-t8 c = search needs
+add-t6 : tie.Need-add-t6
+add-t6 c = search needs
 
 returns-2 : tie.Need-returns-2
 unfolding filterCountIn
 returns-2 c =
-    let a = c .before .before .args in
-    ap (λ (x : ℕ). record { bytes = a .bytes + x; made = a .n; waiting = 0 }) (more-bytes (choiceOf (a .choice)) (a .bytes) (a .waiting) _ (c .before .before .pre) (c .filter-bytes .ensures))
-    ∙ sym (made-over (choiceOf (a .choice)) (a .n) (record { bytes = a .bytes; made = a .made; waiting = a .waiting }) (omega arith))
+    let a = c .before .before .before .before .args in
+    ap (λ (x : ℕ). record { bytes = a .f .bytes + x; made = a .n; waiting = 0 }) (more-bytes (choiceOf (a .choice)) (a .f .bytes) (a .f .waiting) _ (c .before .before .before .before .pre) (c .before .filter-bytes .ensures))
+    ∙ sym (made-over (choiceOf (a .choice)) (a .n) (filterCountIn (a .f)) (omega arith))
 
 pub made-until-spec : {M : Type 1} → statement M
-made-until-spec = tie.close (tie.spec returns filter-bytes-requires add-t8 returns-2)
+made-until-spec = tie.close (tie.spec returns filter-bytes-requires add-t6 returns-2)
