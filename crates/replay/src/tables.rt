@@ -155,11 +155,8 @@ pub fn reached(t: &[u8], w: Walked, n: usize, key: &mut [u8]) -> Sought {
     if n == 0 {
         table_reader::seek(t, b"\0", 0x00ff_ffff_ffff_ffff, key)
     } else {
-        let place = Place {
-            index: w.index,
-            entry: w.entry,
-        };
-        table_reader::step(t, place, key)
+        let room = key.len();
+        step_with(t, w.index, w.entry, key, room)
     }
 }
 
