@@ -9,12 +9,12 @@ use lib.Dec.{eqb, leb, leb→le}
 use lib.ListN.{length, take, drop, drop-of-length-le}
 use lib.Seq.{length-take-le}
 use borrow.Author.Tests.{leb-false, le-leb, lt-leb}
-use Rattle.codec.specs.declared.fixed.U32Read.the-variants as U32Case
-use Rattle.codec.specs.Answers.{u32Answer}
+use Rattle.codec.specs.declared.fixed.NumberRead.the-variants as NumberCase
+use Rattle.codec.specs.Answers.{numberAnswer}
 use Rattle.codec.specs.Bytes.{part, numberOf, numberAt, numbers}
 use Rattle.codec.specs.Maybe.{_>>=_, ask}
 use Rattle.codec.proofs.BytesLaws.{part-drop, part-end}
-use Rattle.codec.proofs.FixedLaws.{number-read, u32-said}
+use Rattle.codec.proofs.FixedLaws.{number-read, number-said}
 use Rattle.codec.proofs.MaybeLaws.{giving, gets}
 use Rattle.codec.proofs.Prelude.{came-of}
 use Rattle.block_reader.specs.declared.block.RowsRead.{RowsRead}
@@ -29,9 +29,9 @@ module _ (s : List ℕ) where
   unfolding rowsOf rowsAnswer _>>=_ ask
   rows-short h = rw (lt-leb 4 (length s) h)
 
-  module _ (long : 4 ≤ length s) {n : ℕ} (e : u32Answer (numberAt 4 s (length s - 4)) ≡ U32Case.Value n) where
+  module _ (long : 4 ≤ length s) {n : ℕ} (e : numberAnswer (numberAt 4 s (length s - 4)) ≡ NumberCase.Value n) where
     last-is : n ≡ numberOf (drop (length s - 4) s)
-    last-is = number-read 4 s (length s - 4) (omega arith) (u32-said _ e) ∙ ap numberOf (part-end s (length s - 4) 4 (omega arith))
+    last-is = number-read 4 s (length s - 4) (omega arith) (number-said _ e) ∙ ap numberOf (part-end s (length s - 4) 4 (omega arith))
 
     pub rows-none : n < 1 → RowsCase.Bad ≡ rowsAnswer (rowsOf s)
     unfolding rowsOf rowsAnswer _>>=_ ask

@@ -13,7 +13,7 @@ ghost use Rattle.block_reader.specs.Said.{kindOf, entryAnswer, keyLeft, 
 ghost use Rattle.block_reader.specs.declared.block.Which.{Which};
 ghost use Rattle.block_reader.specs.Steps.{headAfter, headAnswer, FreshAt, rowsOf, rowsAnswer, Laid, restartAt, marks, filledFrom, Passes, Handed, Told, From, Probed};
 use codec::blockhandle::OneHandle;
-use codec::fixed::U32Read;
+use codec::fixed::NumberRead;
 use codec::limits;
 use codec::limits::least;
 use codec::put::Written;
@@ -261,13 +261,13 @@ pub fn layout(s: &[u8]) -> RowsRead
     }
     let last = s.len() - 4;
     match codec::fixed::read_u32(s, last) {
-        U32Read::Bad => RowsRead::Bad,
-        U32Read::Value(n) => {
+        NumberRead::Bad => RowsRead::Bad,
+        NumberRead::Value(n) => {
             let count = n as usize;
             if count < 1 {
                 return RowsRead::Bad;
             }
-            if last < 4 * count {
+            if last / 4 < count {
                 return RowsRead::Bad;
             }
             RowsRead::Rows {
@@ -284,8 +284,8 @@ fn restart(s: &[u8], end: usize, j: usize) -> usize
     ensures { λ r. ⌜ r ≡ restartAt (now (s .entry)) end j ⌝ }
 {
     match codec::fixed::read_u32(s, end + 4 * j) {
-        U32Read::Bad => 0,
-        U32Read::Value(r) => r as usize,
+        NumberRead::Bad => 0,
+        NumberRead::Value(r) => r as usize,
     }
 }
 

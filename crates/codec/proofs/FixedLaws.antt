@@ -8,11 +8,9 @@ use native.Mathlib.Omega.{arith}
 use lib.ListN.{length, getD}
 use lib.Seq.{drop-cons}
 use borrow.Author.Tests.{le-leb, lt-leb}
-use Rattle.codec.specs.declared.fixed.U32Read.{U32Read}
-use Rattle.codec.specs.declared.fixed.U32Read.the-variants as U32Case
-use Rattle.codec.specs.declared.fixed.U64Read.{U64Read}
-use Rattle.codec.specs.declared.fixed.U64Read.the-variants as U64Case
-use Rattle.codec.specs.Answers.{u32Answer, u64Answer}
+use Rattle.codec.specs.declared.fixed.NumberRead.{NumberRead}
+use Rattle.codec.specs.declared.fixed.NumberRead.the-variants as NumberCase
+use Rattle.codec.specs.Answers.{numberAnswer}
 use Rattle.codec.specs.Bytes.{part, numberOf, numberAt}
 use Rattle.codec.proofs.Prelude.{came-of}
 
@@ -49,20 +47,12 @@ module _ (w : ℕ) (s : List ℕ) (at : ℕ) (there : at + w ≤ length s) where
   pub number-there : numberAt w s at ≡ none → ⊥
   number-there e = Option·none-ne-some (numberOf (part s at w)) (sym e ∙ number-in w s at there)
 
--- ---- the number that an answer says, of 4 bytes and of 8
+-- ---- the number that an answer says
 
-abbrev pub u32In : U32Read → Option ℕ
-u32In U32Case.Bad = none
-u32In (U32Case.Value x) = some x
+abbrev pub numberIn : NumberRead → Option ℕ
+numberIn NumberCase.Bad = none
+numberIn (NumberCase.Value x) = some x
 
-abbrev pub u64In : U64Read → Option ℕ
-u64In U64Case.Bad = none
-u64In (U64Case.Value x) = some x
-
-pub u32-said : (o : Option ℕ) {r : U32Read} → u32Answer o ≡ r → o ≡ u32In r
-unfolding u32Answer
-u32-said = came-of u32Answer u32In (λ o. elim o [ none ↦ refl | some x ↦ refl ])
-
-pub u64-said : (o : Option ℕ) {r : U64Read} → u64Answer o ≡ r → o ≡ u64In r
-unfolding u64Answer
-u64-said = came-of u64Answer u64In (λ o. elim o [ none ↦ refl | some x ↦ refl ])
+pub number-said : (o : Option ℕ) {r : NumberRead} → numberAnswer o ≡ r → o ≡ numberIn r
+unfolding numberAnswer
+number-said = came-of numberAnswer numberIn (λ o. elim o [ none ↦ refl | some x ↦ refl ])

@@ -1,19 +1,13 @@
 // Numbers of 4 and of 8 bytes, the least byte first.
 ghost use mathlib.Core.Path.{_≡_};
 ghost use Prim.Native.Nat.{_+_, _*_};
-ghost use Rattle.codec.specs.Answers.{u32Answer, u64Answer};
+ghost use Rattle.codec.specs.Answers.{numberAnswer};
 ghost use Rattle.codec.specs.Bytes.{bytesOf, numberAt, fours};
 ghost use Rattle.codec.specs.Put.{Wrote};
 use crate::put::Written;
 
-// What reading 4 bytes at a place finds.
-pub enum U32Read {
-    Value(u32),
-    Bad,
-}
-
-// What reading 8 bytes at a place finds.
-pub enum U64Read {
+// What reading a number at a place finds.
+pub enum NumberRead {
     Value(u64),
     Bad,
 }
@@ -26,31 +20,31 @@ fn joined(a: u8, b: u8, c: u8, d: u8) -> u32
 }
 
 // The number of 4 bytes at a place of s.
-pub fn read_u32(s: &[u8], at: usize) -> U32Read
-    ensures { λ r. ⌜ r ≡ u32Answer (numberAt 4 (now (s .entry)) at) ⌝ }
+pub fn read_u32(s: &[u8], at: usize) -> NumberRead
+    ensures { λ r. ⌜ r ≡ numberAnswer (numberAt 4 (now (s .entry)) at) ⌝ }
 {
     if s.len() < at {
-        return U32Read::Bad;
+        return NumberRead::Bad;
     }
     if s.len() - at < 4 {
-        return U32Read::Bad;
+        return NumberRead::Bad;
     }
-    U32Read::Value(joined(s[at], s[at + 1], s[at + 2], s[at + 3]))
+    NumberRead::Value(joined(s[at], s[at + 1], s[at + 2], s[at + 3]) as u64)
 }
 
 // The number of 8 bytes at a place of s.
-pub fn read_u64(s: &[u8], at: usize) -> U64Read
-    ensures { λ r. ⌜ r ≡ u64Answer (numberAt 8 (now (s .entry)) at) ⌝ }
+pub fn read_u64(s: &[u8], at: usize) -> NumberRead
+    ensures { λ r. ⌜ r ≡ numberAnswer (numberAt 8 (now (s .entry)) at) ⌝ }
 {
     if s.len() < at {
-        return U64Read::Bad;
+        return NumberRead::Bad;
     }
     if s.len() - at < 8 {
-        return U64Read::Bad;
+        return NumberRead::Bad;
     }
     let low = joined(s[at], s[at + 1], s[at + 2], s[at + 3]);
     let high = joined(s[at + 4], s[at + 5], s[at + 6], s[at + 7]);
-    U64Read::Value((low as u64) + 4294967296 * (high as u64))
+    NumberRead::Value((low as u64) + 4294967296 * (high as u64))
 }
 
 // Writes the low `width` bytes of x at a place of out.

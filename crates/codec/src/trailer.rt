@@ -4,7 +4,7 @@ ghost use Prim.Native.Nat.{_+_};
 ghost use Rattle.codec.specs.Bytes.{part};
 ghost use Rattle.codec.specs.Checksum.{sealOf, trailer, trailerStands};
 ghost use Rattle.codec.specs.Put.{Wrote};
-use crate::fixed::U32Read;
+use crate::fixed::NumberRead;
 use crate::put::Written;
 
 // The masked checksum of some contents and the type byte 0.
@@ -51,7 +51,7 @@ pub fn trailer_stands(t: &[u8], offset: usize, size: usize) -> bool
         return false;
     }
     match crate::fixed::read_u32(t, end + 1) {
-        U32Read::Bad => false,
-        U32Read::Value(sum) => sum == seal(&t[offset..end]),
+        NumberRead::Bad => false,
+        NumberRead::Value(sum) => sum == (seal(&t[offset..end]) as u64),
     }
 }

@@ -12,7 +12,7 @@ ghost use Rattle.filter_block.specs.Choice.{choiceOf};
 ghost use Rattle.filters.specs.FilterBlock.{rising, filterFormed, mayMatch, filterBlockOf};
 ghost use Rattle.filter_block.specs.Make.{groupsUpTo, MadeFilters};
 use crate::filter::Filter;
-use codec::fixed::U32Read;
+use codec::fixed::NumberRead;
 use codec::put::Written;
 
 // The number of 4 bytes at a place.
@@ -21,8 +21,8 @@ fn number(s: &[u8], at: usize) -> usize
     ensures { λ r. ⌜ r ≡ numberOf (part (now (s .entry)) at 4) ⌝ }
 {
     match codec::fixed::read_u32(s, at) {
-        U32Read::Bad => 0,
-        U32Read::Value(x) => x as usize,
+        NumberRead::Bad => 0,
+        NumberRead::Value(x) => x as usize,
     }
 }
 

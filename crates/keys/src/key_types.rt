@@ -8,7 +8,7 @@ ghost use Rattle.codec.specs.Put.{Wrote};
 ghost use Rattle.keys.specs.Answers.{orderAnswer, kindAnswer, keyAnswer};
 ghost use Rattle.keys.specs.Order.{userOf, tagOf, internal, pointOf, byPoint, below};
 use crate::cmp::Ordering;
-use codec::fixed::U64Read;
+use codec::fixed::NumberRead;
 use codec::put::Written;
 
 pub enum ValueType {
@@ -86,8 +86,8 @@ pub fn tag_of(key: &[u8]) -> u64
         return number_of(key);
     }
     match codec::fixed::read_u64(key, key.len() - 8) {
-        U64Read::Value(tag) => tag,
-        U64Read::Bad => 0,
+        NumberRead::Value(tag) => tag,
+        NumberRead::Bad => 0,
     }
 }
 

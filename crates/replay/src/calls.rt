@@ -19,7 +19,7 @@ use builder::table_builder::Lengths;
 use builder::table_builder::Options;
 use builder::table_builder::Outcome;
 use builder::table_builder::Started;
-use codec::fixed::U64Read;
+use codec::fixed::NumberRead;
 use filter_block::filter::Filter;
 
 // How long the runs are in use, those of bytes and those of numbers, and the checksums of what is in use; the lengths of the
@@ -117,11 +117,11 @@ fn long(s: &[u8], at: usize) -> Eight {
     let mut eight = [0u8; 8];
     let f = fields::field(s, at, &mut eight);
     match codec::fixed::read_u64(&eight, 0) {
-        U64Read::Bad => Eight {
+        NumberRead::Bad => Eight {
             value: 0,
             next: f.next,
         },
-        U64Read::Value(n) => Eight {
+        NumberRead::Value(n) => Eight {
             value: n,
             next: f.next,
         },

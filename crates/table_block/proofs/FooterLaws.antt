@@ -9,13 +9,13 @@ use lib.ListN.{length, take, drop, getD, length-drop}
 use borrow.Author.Tests.{le-leb, lt-leb, leb-true, leb-false}
 use Rattle.codec.specs.Bytes.{part, bytesOf, numberOf, numberAt, sameBytes}
 use Rattle.codec.specs.Varint.{handle}
-use Rattle.codec.specs.Answers.{handleAnswer, u64Answer}
-use Rattle.codec.specs.declared.fixed.U64Read.the-variants as U64Case
+use Rattle.codec.specs.Answers.{handleAnswer, numberAnswer}
+use Rattle.codec.specs.declared.fixed.NumberRead.the-variants as NumberCase
 use Rattle.codec.specs.declared.blockhandle.HandleRead.the-variants as HandleCase
 use Rattle.codec.proofs.Prelude.{test, came-of}
 use Rattle.codec.proofs.Lists.{below-all, below-drop}
 use Rattle.codec.proofs.BytesLaws.{part-end, same-number}
-use Rattle.codec.proofs.FixedLaws.{number-read, u64-said}
+use Rattle.codec.proofs.FixedLaws.{number-read, number-said}
 use Rattle.codec.proofs.VarintCode.{handle-said}
 use Rattle.table_block.specs.declared.footer.FooterRead.{FooterRead}
 use Rattle.table_block.specs.declared.footer.FooterRead.the-variants as FooterCase
@@ -53,9 +53,9 @@ magic-number t l b =
     rw (w, m) (sym (same-number (drop (length t - 8) t) 0xdb47_7524_8b80_fb57 (below-drop 256 (length t - 8) t (below-all 256 t b)) (rw n (lit< tt))))
 
 -- what reading the last 8 bytes says
-pub magic-read : (t : List ℕ) → 48 ≤ length t → {x : ℕ} → ((i : ℕ) → getD t i 0 < 256) → u64Answer (numberAt 8 t (length t - 8)) ≡ U64Case.Value x
+pub magic-read : (t : List ℕ) → 48 ≤ length t → {x : ℕ} → ((i : ℕ) → getD t i 0 < 256) → numberAnswer (numberAt 8 t (length t - 8)) ≡ NumberCase.Value x
     → eqb x 0xdb47_7524_8b80_fb57 ≡ sameBytes (drop (length t - 8) t) magic
-magic-read t l b e = rw (number-read 8 t (length t - 8) (omega arith) (u64-said _ e)) (magic-number t l b)
+magic-read t l b e = rw (number-read 8 t (length t - 8) (omega arith) (number-said _ e)) (magic-number t l b)
 
 -- ---- both handles
 

@@ -7,7 +7,7 @@ ghost use Rattle.codec.specs.Bytes.{sameBytes};
 ghost use Rattle.table_block.specs.Answers.{footerAnswer};
 ghost use Rattle.table.specs.Table.{magic, endsBefore, footerHandles, footer};
 use codec::blockhandle::HandleRead;
-use codec::fixed::U64Read;
+use codec::fixed::NumberRead;
 
 // The most bytes that a table has.
 pub const TABLE_LIMIT: usize = 16777216;
@@ -46,8 +46,8 @@ fn ends_in_magic(table: &[u8]) -> bool
     ensures { λ r. ⌜ r ≡ sameBytes (drop (length (now (table .entry)) - 8) (now (table .entry))) magic ⌝ }
 {
     match codec::fixed::read_u64(table, table.len() - 8) {
-        U64Read::Bad => false,
-        U64Read::Value(x) => x == 0xdb47_7524_8b80_fb57,
+        NumberRead::Bad => false,
+        NumberRead::Value(x) => x == 0xdb47_7524_8b80_fb57,
     }
 }
 

@@ -1,8 +1,7 @@
 // Runs published vectors and worked cases through the code and writes what it answers, a line each.
 use codec::blockhandle::HandleRead;
 use codec::blockhandle::OneHandle;
-use codec::fixed::U32Read;
-use codec::fixed::U64Read;
+use codec::fixed::NumberRead;
 use codec::put::Written;
 use codec::varint::VarintRead;
 use libc::STDOUT_FILENO;
@@ -125,19 +124,12 @@ fn read(s: &[u8]) {
 
 // ---- numbers of 4 and 8 bytes
 
-fn four(r: U32Read) {
+fn found(r: NumberRead, digits: usize) {
     match r {
-        U32Read::Value(x) => word(x),
-        U32Read::Bad => say(b"none"),
-    }
-}
-
-fn eight(r: U64Read) {
-    match r {
-        U64Read::Value(x) => {
-            io::print_hex(STDOUT_FILENO, x, 16);
+        NumberRead::Value(x) => {
+            io::print_hex(STDOUT_FILENO, x, digits);
         }
-        U64Read::Bad => say(b"none"),
+        NumberRead::Bad => say(b"none"),
     }
 }
 
@@ -151,14 +143,14 @@ fn fixed(at: usize) {
     say(b", ");
     bytes(&run);
     say(b", read ");
-    four(codec::fixed::read_u32(&run, at));
+    found(codec::fixed::read_u32(&run, at), 8);
     say(b"; 8 bytes:");
     let mut long = [0xee_u8; 12];
     written(codec::fixed::write_u64(&mut long, at, 0xa1b2_c3d4_e5f6_0718));
     say(b", ");
     bytes(&long);
     say(b", read ");
-    eight(codec::fixed::read_u64(&long, at));
+    found(codec::fixed::read_u64(&long, at), 16);
     say(b"\n");
 }
 

@@ -2,7 +2,7 @@
 use mathlib.Core.Path.{sym, _∙_}
 use native.Mathlib.Omega.{arith}
 use Rattle.block_reader.specs.Steps.{restartAt}
-use Rattle.codec.proofs.FixedLaws.{number-read, number-there, u32-said}
+use Rattle.codec.proofs.FixedLaws.{number-read, number-there, number-said}
 use borrow.Author.Needs.{needs}
 use Rattle.block_reader.proofs.block.restart.Statement.{statement}
 use Rattle.block_reader.proofs.block.restart.Tie as tie
@@ -22,15 +22,12 @@ enum-told c = search needs
 enum-known-r : tie.Need-enum-known-r
 enum-known-r c = search needs
 
-cast-result : tie.Need-cast-result
-cast-result c = search needs
-
 returns : tie.Need-returns
-returns c = absurd (number-there 4 _ _ (omega arith) (u32-said _ (sym (c .before .before .read-u32 .ensures) ∙ c .enum-told .given .1)))
+returns c = absurd (number-there 4 _ _ (omega arith) (number-said _ (sym (c .before .before .read-u32 .ensures) ∙ c .enum-told .given .1)))
 
 returns-2 : tie.Need-returns-2
 unfolding restartAt
-returns-2 c = number-read 4 _ _ (omega arith) (u32-said _ (sym (c .before .before .before .read-u32 .ensures) ∙ c .before .r .given .1))
+returns-2 c = number-read 4 _ _ (omega arith) (number-said _ (sym (c .before .before .before .read-u32 .ensures) ∙ c .before .r .given .1))
 
 pub restart-spec : {M : Type 1} → statement M
 restart-spec =
@@ -41,6 +38,5 @@ restart-spec =
     read-u32-requires
     enum-told
     enum-known-r
-    cast-result
     returns
     returns-2)

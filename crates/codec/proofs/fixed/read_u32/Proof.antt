@@ -2,23 +2,23 @@
 use mathlib.Core.Path.{sym, ap, _∙_}
 use native.Mathlib.Nat.{add-zero}
 use native.Mathlib.Omega.{arith}
-use Rattle.codec.specs.declared.fixed.U32Read.the-variants.{Value}
-use Rattle.codec.specs.Answers.{u32Answer}
+use Rattle.codec.specs.declared.fixed.NumberRead.the-variants.{Value}
+use Rattle.codec.specs.Answers.{numberAnswer}
 use Rattle.codec.proofs.FixedLaws.{number-at, number-out}
 use borrow.Author.Needs.{needs}
 use Rattle.codec.proofs.fixed.read_u32.Statement.{statement}
 use Rattle.codec.proofs.fixed.read_u32.Tie as tie
 
 returns : tie.Need-returns
-unfolding u32Answer
-returns c = sym (ap u32Answer (number-out 4 _ _ (omega arith)))
+unfolding numberAnswer
+returns c = sym (ap numberAnswer (number-out 4 _ _ (omega arith)))
 
 sub-if2 : tie.Need-sub-if2
 sub-if2 c = search needs
 
 returns-2 : tie.Need-returns-2
-unfolding u32Answer
-returns-2 c = sym (ap u32Answer (number-out 4 _ _ (omega arith)))
+unfolding numberAnswer
+returns-2 c = sym (ap numberAnswer (number-out 4 _ _ (omega arith)))
 
 shared-slice-read-joined : tie.Need-shared-slice-read-joined
 shared-slice-read-joined c = search needs
@@ -44,11 +44,14 @@ shared-slice-read-joined-4 c = search needs
 joined-requires : tie.Need-joined-requires
 joined-requires c κs = search needs
 
+cast-t16 : tie.Need-cast-t16
+cast-t16 c = search needs
+
 returns-3 : tie.Need-returns-3
-unfolding u32Answer
+unfolding numberAnswer
 returns-3 c =
     let a = c .before .before .before .before .before .before .before .before .args in
-    ap Value (omega (arith, c .joined .ensures)) ∙ sym (ap u32Answer (rw (add-zero (a .at)) at (number-at 4 (a .s .now) (a .at) (omega arith))))
+    ap Value (omega (arith, c .joined .ensures)) ∙ sym (ap numberAnswer (rw (add-zero (a .at)) at (number-at 4 (a .s .now) (a .at) (omega arith))))
 
 pub read-u32-spec : {M : Type 1} → statement M
 read-u32-spec =
@@ -65,4 +68,5 @@ read-u32-spec =
     add-joined-3
     shared-slice-read-joined-4
     joined-requires
+    cast-t16
     returns-3)

@@ -2,23 +2,23 @@
 use mathlib.Core.Path.{sym, ap, _∙_}
 use native.Mathlib.Nat.{add-zero}
 use native.Mathlib.Omega.{arith}
-use Rattle.codec.specs.declared.fixed.U64Read.the-variants.{Value}
-use Rattle.codec.specs.Answers.{u64Answer}
+use Rattle.codec.specs.declared.fixed.NumberRead.the-variants.{Value}
+use Rattle.codec.specs.Answers.{numberAnswer}
 use Rattle.codec.proofs.FixedLaws.{number-at, number-out}
 use borrow.Author.Needs.{needs}
 use Rattle.codec.proofs.fixed.read_u64.Statement.{statement}
 use Rattle.codec.proofs.fixed.read_u64.Tie as tie
 
 returns : tie.Need-returns
-unfolding u64Answer
-returns c = sym (ap u64Answer (number-out 8 _ _ (omega arith)))
+unfolding numberAnswer
+returns c = sym (ap numberAnswer (number-out 8 _ _ (omega arith)))
 
 sub-if2 : tie.Need-sub-if2
 sub-if2 c = search needs
 
 returns-2 : tie.Need-returns-2
-unfolding u64Answer
-returns-2 c = sym (ap u64Answer (number-out 8 _ _ (omega arith)))
+unfolding numberAnswer
+returns-2 c = sym (ap numberAnswer (number-out 8 _ _ (omega arith)))
 
 shared-slice-read-joined : tie.Need-shared-slice-read-joined
 shared-slice-read-joined c = search needs
@@ -84,10 +84,10 @@ add-t25 : tie.Need-add-t25
 add-t25 c = search needs
 
 returns-3 : tie.Need-returns-3
-unfolding u64Answer
+unfolding numberAnswer
 returns-3 c =
     let a = c .before .before .before .before .before .before .before .before .before .before .before .before .before .args in
-    ap Value (omega (arith, c .before .before .before .before .before .joined .ensures, c .joined2 .ensures)) ∙ sym (ap u64Answer (rw (add-zero (a .at)) at (number-at 8 (a .s .now) (a .at) (omega arith))))
+    ap Value (omega (arith, c .before .before .before .before .before .joined .ensures, c .joined2 .ensures)) ∙ sym (ap numberAnswer (rw (add-zero (a .at)) at (number-at 8 (a .s .now) (a .at) (omega arith))))
 
 pub read-u64-spec : {M : Type 1} → statement M
 read-u64-spec =

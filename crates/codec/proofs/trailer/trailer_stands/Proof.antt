@@ -4,7 +4,7 @@ use native.Mathlib.Omega.{arith}
 use lib.Dec.{eqb}
 use Rattle.codec.specs.Checksum.{sealOf}
 use Rattle.codec.proofs.BytesLaws.{part-between}
-use Rattle.codec.proofs.FixedLaws.{number-read, number-there, u32-said}
+use Rattle.codec.proofs.FixedLaws.{number-read, number-there, number-said}
 use Rattle.codec.proofs.TrailerLaws.{stands-short, stands-type, stands-sum}
 use borrow.Author.Needs.{needs}
 use Rattle.codec.proofs.trailer.trailer_stands.Statement.{statement}
@@ -58,13 +58,16 @@ part-seal-end c = search needs
 seal-requires : tie.Need-seal-requires
 seal-requires c κs = search needs
 
+cast-result : tie.Need-cast-result
+cast-result c = search needs
+
 returns-5 : tie.Need-returns-5
-returns-5 c = absurd (number-there 4 _ _ (omega arith) (u32-said _ (sym (c .before .before .read-u32 .ensures) ∙ c .enum-told .given .1)))
+returns-5 c = absurd (number-there 4 _ _ (omega arith) (number-said _ (sym (c .before .before .read-u32 .ensures) ∙ c .enum-told .given .1)))
 
 returns-6 : tie.Need-returns-6
 returns-6 c =
     let a = c .before .before .before .before .before .before .before .before .before .before .before .before .args in
-    ap₂ eqb (number-read 4 _ _ (omega arith) (u32-said _ (sym (c .before .before .before .before .before .read-u32 .ensures) ∙ c .before .before .before .sum .given .1))) (c .seal .ensures ∙ ap sealOf (part-between (a .t .now) (a .offset) (a .size)))
+    ap₂ eqb (number-read 4 _ _ (omega arith) (number-said _ (sym (c .before .before .before .before .before .read-u32 .ensures) ∙ c .before .before .before .sum .given .1))) (c .seal .ensures ∙ ap sealOf (part-between (a .t .now) (a .offset) (a .size)))
     ∙ stands-sum _ _ _ (omega arith) (λ i. c .before .before .before .before .before .before .before .shared-slice-known2 .given i .fits) (c .before .before .before .before .before .before .if4 .left)
 
 pub trailer-stands-spec : {M : Type 1} → statement M
@@ -87,5 +90,6 @@ trailer-stands-spec =
     part-seal-start
     part-seal-end
     seal-requires
+    cast-result
     returns-5
     returns-6)

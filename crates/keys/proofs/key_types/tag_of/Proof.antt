@@ -1,6 +1,6 @@
 -- `keys::key_types::tag_of` meets its contract.
 use mathlib.Core.Path.{sym, _∙_}
-use Rattle.codec.proofs.FixedLaws.{number-read, number-there, u64-said}
+use Rattle.codec.proofs.FixedLaws.{number-read, number-there, number-said}
 use Rattle.keys.proofs.AnswerLaws.{tag-short, tag-long}
 use borrow.Author.Needs.{needs}
 use native.Mathlib.Omega.{arith}
@@ -26,10 +26,10 @@ enum-told : tie.Need-enum-told
 enum-told c = search needs
 
 returns-2 : tie.Need-returns-2
-returns-2 c = number-read 8 _ _ (omega arith) (u64-said _ (sym (c .before .before .before .read-u64 .ensures) ∙ c .before .tag .given .1)) ∙ tag-long _ (omega arith)
+returns-2 c = number-read 8 _ _ (omega arith) (number-said _ (sym (c .before .before .before .read-u64 .ensures) ∙ c .before .tag .given .1)) ∙ tag-long _ (omega arith)
 
 returns-3 : tie.Need-returns-3
-returns-3 c = absurd (number-there 8 _ _ (omega arith) (u64-said _ (sym (c .before .before .read-u64 .ensures) ∙ c .enum-told .given .1)))
+returns-3 c = absurd (number-there 8 _ _ (omega arith) (number-said _ (sym (c .before .before .read-u64 .ensures) ∙ c .enum-told .given .1)))
 
 pub tag-of-spec : {M : Type 1} → statement M
 tag-of-spec =
