@@ -8,11 +8,11 @@ use native.Mathlib.Omega.{arith}
 use lib.ListN.{length, take, drop, length-append, length-replicate}
 use borrow.Author.Tests.{le-leb, lt-ltb}
 use Rattle.codec.specs.Bytes.{part}
-use Rattle.codec.specs.Checksum.{trailer}
+use Rattle.checksum.specs.Checksum.{trailer}
 use Rattle.codec.specs.Put.{room, put}
 use Rattle.codec.specs.Varint.{handleBytes}
 use Rattle.codec.proofs.PutLaws.{put-put, put-behind, put-start, put-length}
-use Rattle.codec.proofs.TrailerLaws.{trailer-length}
+use Rattle.checksum.proofs.TrailerLaws.{trailer-length}
 use Rattle.codec.proofs.VarintLaws.{handle-long}
 use Rattle.block_builder.specs.declared.block_builder.BlockBuilder.{BlockBuilder}
 use Rattle.block_builder.specs.declared.block_builder.Added.{Added}
@@ -25,7 +25,7 @@ use Rattle.block_builder.proofs.BuilderCode.{addable-room, room-mark}
 use Rattle.filters.specs.FilterBlock.{Filtering, Filters, noFilters, filtersUpTo, madeBytes, starts}
 use Rattle.filter_block.specs.declared.filter_block.Made.{Made}
 use Rattle.filters.specs.FilterCount.{FilterCount, filterCountOf}
-use Rattle.filter_block.specs.Choice.{choiceOf}
+use Rattle.bloom.specs.Choice.{choiceOf}
 use Rattle.filter_block.specs.Make.{groupsUpTo, roomFor, MadeFilters}
 use Rattle.filters.proofs.FilterBlockLaws.{made-append, starts-length}
 use Rattle.table.specs.Options.{Options, indexInterval}

@@ -19,7 +19,7 @@ use Rattle.blocks.proofs.BuildLaws.{one-long}
 use Rattle.block_builder.proofs.BuilderLaws.{stands-size}
 use Rattle.blocks.proofs.CountLaws.{entry-long}
 use Rattle.filters.specs.FilterBlock.{filterBlockOf}
-use Rattle.filter_block.specs.Choice.{choiceOf}
+use Rattle.bloom.specs.Choice.{choiceOf}
 use Rattle.filters.proofs.FilterBlockLaws.{block-of-long}
 use Rattle.table.specs.Build.{framed, metaName, footerBytes}
 use Rattle.table.specs.Runs.{overlay}

@@ -8,13 +8,13 @@ use native.Mathlib.Omega.{arith}
 use lib.ListN.{length, take, drop, replicate, length-append, length-replicate, drop-of-length-le}
 use lib.Seq.{take-at, drop-at}
 use Rattle.codec.specs.Bytes.{part}
-use Rattle.codec.specs.Checksum.{trailer}
+use Rattle.checksum.specs.Checksum.{trailer}
 use Rattle.codec.specs.Put.{put, Wrote}
 use Rattle.codec.specs.Varint.{Handle, handleBytes}
 use Rattle.codec.specs.declared.put.Written.{Written}
 use Rattle.codec.specs.declared.put.Written.the-variants.{At}
 use Rattle.codec.proofs.PutLaws.{put-put, put-room, wrote-next}
-use Rattle.codec.proofs.TrailerLaws.{trailer-length}
+use Rattle.checksum.proofs.TrailerLaws.{trailer-length}
 use Rattle.codec.proofs.VarintLaws.{handle-long}
 use Rattle.block_builder.specs.declared.block_builder.BlockBuilder.{BlockBuilder}
 use Rattle.block_builder.specs.declared.block_builder.Added.{Added}
@@ -26,8 +26,8 @@ use Rattle.block_builder.specs.Builder as Blocks
 use Rattle.block_builder.specs.Builder.{countIn, newBuilder, builderAfter, builderWith, nextBytes, AddedIs}
 use Rattle.block_builder.proofs.BuilderLaws.{counting-none, after-is, stands-none, stands-more, stands-size, added-is}
 use Rattle.block_builder.proofs.BuilderCode.{next-bytes}
-use Rattle.filter_block.specs.declared.filter.Filter as FilterEnum
-use Rattle.filter_block.specs.Choice.{choiceOf}
+use Rattle.bloom.specs.declared.filter.Filter as FilterEnum
+use Rattle.bloom.specs.Choice.{choiceOf}
 use Rattle.table.specs.Build.{framed, metaName, footerBytes}
 use Rattle.table.specs.Table.{magic}
 use Rattle.builder.specs.Writes.{tailedOut, sealedOut, Framed}

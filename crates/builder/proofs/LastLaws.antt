@@ -16,7 +16,7 @@ use Rattle.block_builder.specs.Builder.{countIn}
 use Rattle.blocks.proofs.CountLaws.{count-zero}
 use Rattle.filters.specs.FilterBlock.{Filtering, Filters, noFilters, makeFilter, lastFilter, madeBytes, starts, filterBlockOf, filterBlockBytes}
 use Rattle.filters.specs.FilterCount.{FilterCount, filterCountOf, countLast}
-use Rattle.filter_block.specs.Choice.{choiceOf}
+use Rattle.bloom.specs.Choice.{choiceOf}
 use Rattle.filter_block.specs.Make.{groupsUpTo, MadeFilters}
 use Rattle.filters.proofs.FilterBlockLaws.{starts-length, last-of}
 use Rattle.filters.proofs.FilterCountLaws.{count-last, last-kept}

@@ -21,12 +21,12 @@ use Rattle.block_builder.specs.Plan.{sizeWith}
 use Rattle.block_builder.proofs.BuilderLaws.{counting-none, counts-with}
 use Rattle.block_builder.proofs.BuilderCode.{fits-all}
 use Rattle.blocks.proofs.CountLaws.{count-none, entry-restarts}
-use Rattle.filter_block.specs.declared.filter.Filter as FilterEnum
+use Rattle.bloom.specs.declared.filter.Filter as FilterEnum
 use Rattle.filters.specs.Filter.{filterSize}
 use Rattle.filters.specs.FilterBlock.{Filtering, unfiltered, bitsPerKey}
 use Rattle.filters.specs.FilterCount.{FilterCount, filterBytesOf, countMade, countUpTo, countLast, filterBlockSize}
 use Rattle.filters.proofs.FilterCountLaws.{made-over, made-enough, none-waits, some-wait}
-use Rattle.filter_block.specs.Choice.{choiceOf}
+use Rattle.bloom.specs.Choice.{choiceOf}
 use Rattle.table.specs.Options.{Options, indexInterval, optionsFit, filteringFits, tableLimit}
 use Rattle.table.specs.Build.{metaName}
 use Rattle.table.specs.Counts.{handleSize, countClose, countCloseLast, metaSize, endSize, finishedSize}

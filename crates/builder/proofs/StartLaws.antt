@@ -8,7 +8,7 @@ use Rattle.block_builder.specs.Builder.{newBuilder}
 use Rattle.blocks.specs.Block.{packed, restartsOf}
 use Rattle.block_builder.proofs.BuilderLaws.{counting-none}
 use Rattle.blocks.proofs.CountLaws.{count-none}
-use Rattle.filter_block.specs.Choice.{choiceOf}
+use Rattle.bloom.specs.Choice.{choiceOf}
 use Rattle.filters.specs.FilterBlock.{noFilters, wait, madeBytes, starts}
 use Rattle.table.specs.Checked.{Checked, pass, refuse, _>>=_, ask}
 use Rattle.table.specs.Options.{Options, indexInterval, optionsFit}

@@ -5,7 +5,7 @@ use mathlib.Core.List.{List, [], _∷_}
 use native.Mathlib.Omega.{arith}
 use lib.ListN.{length, take, set}
 use Rattle.codec.specs.Bytes.{part}
-use Rattle.codec.specs.Checksum.{trailer}
+use Rattle.checksum.specs.Checksum.{trailer}
 use Rattle.codec.specs.Put.{put}
 use Rattle.codec.specs.Varint.{handleBytes}
 use Rattle.codec.proofs.PutLaws.{put-sets, put-full}
@@ -15,7 +15,7 @@ use Rattle.blocks.specs.Count.{countSize}
 use Rattle.block_builder.specs.declared.block_builder.Added.{Added}
 use Rattle.block_builder.specs.Builder.{countIn, AddedIs}
 use Rattle.filter_block.specs.declared.filter_block.Made.{Made}
-use Rattle.filter_block.specs.Choice.{choiceOf}
+use Rattle.bloom.specs.Choice.{choiceOf}
 use Rattle.filter_block.specs.Make.{groupsUpTo, MadeFilters}
 use Rattle.builder.specs.declared.table_builder.Builder.{Builder}
 use Rattle.builder.specs.declared.table_builder.Close.{Close}

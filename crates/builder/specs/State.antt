@@ -7,8 +7,8 @@ use lib.Dec.{eqb, leb}
 use lib.ListN.{length}
 use Rattle.block_builder.specs.Builder.{countIn, newBuilder}
 use Rattle.filters.specs.FilterBlock.{Filtering}
-use Rattle.filter_block.specs.Choice.{choiceOf}
-use Rattle.filter_block.specs.declared.filter.Filter.the-variants as FilterCase
+use Rattle.bloom.specs.Choice.{choiceOf}
+use Rattle.bloom.specs.declared.filter.Filter.the-variants as FilterCase
 use Rattle.table.specs.Options.{Options, indexInterval, optionsFit, emptySize}
 use Rattle.table.specs.Build.{Building}
 use Rattle.table.specs.Checked.{pass}

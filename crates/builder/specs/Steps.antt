@@ -10,7 +10,7 @@ use Rattle.keys.specs.Order.{below, separator}
 use Rattle.blocks.specs.Count.{countSize}
 use Rattle.block_builder.specs.Builder.{countIn, newBuilder, builderAfter}
 use Rattle.filters.specs.FilterCount.{FilterCount, countUpTo, countLast}
-use Rattle.filter_block.specs.Choice.{choiceOf}
+use Rattle.bloom.specs.Choice.{choiceOf}
 use Rattle.table.specs.Options.{filteringFits, tableLimit}
 use Rattle.table.specs.Runs.{roomOf}
 use Rattle.table.specs.Counts.{handleSize, finishedSize}

@@ -5,7 +5,7 @@ use mathlib.Core.List.{List, [], _∷_, _++_}
 use mathlib.Core.Bool.{Bool, true, false}
 use lib.ListN.{length, take}
 use Rattle.codec.specs.Bytes.{part}
-use Rattle.codec.specs.Checksum.{trailer}
+use Rattle.checksum.specs.Checksum.{trailer}
 use Rattle.codec.specs.Put.{put}
 use Rattle.codec.specs.Varint.{handleBytes}
 use Rattle.block_builder.specs.declared.block_builder.BlockBuilder.{BlockBuilder}
@@ -15,7 +15,7 @@ use Rattle.block_builder.specs.Builder as Blocks
 use Rattle.blocks.specs.Count.{countSize}
 use Rattle.block_builder.specs.Builder.{countIn, AddedIs}
 use Rattle.filter_block.specs.declared.filter_block.Made.{Made}
-use Rattle.filter_block.specs.Choice.{choiceOf}
+use Rattle.bloom.specs.Choice.{choiceOf}
 use Rattle.filters.specs.Filter.{hash}
 use Rattle.filters.specs.FilterBlock.{filterBlockOf}
 use Rattle.filter_block.specs.Make.{groupsUpTo, MadeFilters}

@@ -12,7 +12,7 @@ ghost use Rattle.blocks.specs.Block.{blockBytes};
 ghost use Rattle.blocks.specs.Count.{countSize};
 ghost use Rattle.block_builder.specs.Builder as Blocks;
 ghost use Rattle.block_builder.specs.Builder.{countIn};
-ghost use Rattle.filter_block.specs.Choice.{choiceOf};
+ghost use Rattle.bloom.specs.Choice.{choiceOf};
 ghost use Rattle.filters.specs.FilterBlock.{filterBlockOf};
 ghost use Rattle.filter_block.specs.Make.{groupsUpTo, MadeFilters};
 ghost use Rattle.filters.specs.FilterCount.{filterBytesOf, countMade, countLast};
@@ -26,9 +26,9 @@ ghost use Rattle.builder.specs.Answers.{StartedIs, AddedIs, FinishedIs};
 ghost use Rattle.builder.specs.Steps.{small, Small, filterCountIn, filtersIn, closeIn, closedState, Roomy, enteredState, lastState, sizesIn, Whole, cutOf, midOf, aboveLast, fitsOf, earlyOf, Ready, DecidedIs, EndingIs};
 ghost use Rattle.builder.specs.Writes.{sealedOut, ClosedOut, ClosedIndex, ClosedFilters, EnteredRuns, LastFilters, Framed, IndexPut, EndFits, EndPut};
 use block_builder::block_builder::BlockBuilder;
+use bloom::filter::Filter;
 use codec::put::Written;
 use codec::varint::varint_len;
-use filter_block::filter::Filter;
 use filter_block::filter_block::Made;
 use table_block::footer::TABLE_LIMIT;
 
@@ -339,7 +339,7 @@ fn made_until(choice: Filter, n: usize, f: FilterSizes) -> FilterSizes
     if n <= f.made {
         return f;
     }
-    let more = filter_block::filter::filter_bytes(choice, f.waiting);
+    let more = bloom::filter::filter_bytes(choice, f.waiting);
     FilterSizes {
         bytes: f.bytes + more,
         made: n,
@@ -697,7 +697,7 @@ fn seal_block(out: &mut [u8], at: usize, pending: BlockBuilder, restarts: &[u32]
     ensures { λ _. ⌜ now (out .exit) ≡ sealedOut (now (out .entry)) at pending (now (restarts .entry)) ⌝ }
 {
     pending.finish(out, at, restarts);
-    codec::trailer::put_trailer(out, at, size);
+    checksum::trailer::put_trailer(out, at, size);
 }
 
 // Adds an entry to the index: a key, and the handle of a block.
@@ -817,7 +817,7 @@ fn write_entry(
     ensures { λ _. ⌜ EnteredRuns pending at waiting (now (key .entry)) (now (word .entry)) (now (value .entry)) (now (out .entry)) (now (out .exit)) (now (restarts .entry)) (now (restarts .exit)) (now (hashes .entry)) (now (hashes .exit)) ⌝ }
 {
     pending.add(out, at, restarts, key, value);
-    push_hash(hashes, waiting, filter_block::filter::bloom_hash(word));
+    push_hash(hashes, waiting, bloom::filter::bloom_hash(word));
 }
 
 // The internal key of an addition goes to the front of key; how many bytes it has.
@@ -867,7 +867,7 @@ fn put_filter(
     ensures { λ _. ⌜ (size ≡ length (filterBlockOf (take bytes (now (filters .entry))) (take made (now (offsets .entry)))) → Framed (now (out .entry)) at (filterBlockOf (take bytes (now (filters .entry))) (take made (now (offsets .entry)))) (now (out .exit))) ⌝ }
 {
     filter_block::filter_block::finish(out, at, &filters[..bytes], &offsets[..made]);
-    codec::trailer::put_trailer(out, at, size);
+    checksum::trailer::put_trailer(out, at, size);
 }
 
 // Writes a block of one entry and its trailer at a place of out.
@@ -879,7 +879,7 @@ fn put_one(out: &mut [u8], at: usize, interval: usize, name: &[u8], value: &[u8]
     let added = block.add(out, at, &mut restarts, name, value);
     let one = added.block;
     one.finish(out, at, &restarts);
-    codec::trailer::put_trailer(out, at, size);
+    checksum::trailer::put_trailer(out, at, size);
 }
 
 // Writes the metaindex and its trailer at a place of out.

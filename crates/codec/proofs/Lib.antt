@@ -6,5 +6,3 @@ pub mod VarintLaws
 pub mod VarintCode
 pub mod PutLaws
 pub mod FixedLaws
-pub mod CrcLaws
-pub mod TrailerLaws

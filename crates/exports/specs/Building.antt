@@ -4,8 +4,8 @@ use mathlib.Core.Path.{_≡_}
 use mathlib.Core.Bool.{cond, not}
 use lib.Dec.{eqb}
 use Rattle.codec.specs.Shown.{Shown}
-use Rattle.filter_block.specs.declared.filter.Filter as FilterEnum
-use Rattle.filter_block.specs.declared.filter.Filter.the-variants as FilterCase
+use Rattle.bloom.specs.declared.filter.Filter as FilterEnum
+use Rattle.bloom.specs.declared.filter.Filter.the-variants as FilterCase
 use Rattle.table.specs.Options.{Addition}
 use Rattle.table.specs.Runs.{Runs}
 use Rattle.builder.specs.Answers.{StartedIs, AddedIs, FinishedIs}

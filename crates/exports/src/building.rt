@@ -3,6 +3,7 @@ ghost use mathlib.Core.Path.{_≡_};
 ghost use Rattle.builder.specs.State.{seven};
 ghost use Rattle.exports.specs.Building.{filterIn, filterNumber, filterBits, builderIn, stateOut, outcomeOf, answered, startedOut, addedOut, StartsOut, AddsOut, FinishesOut};
 use block_builder::block_builder::BlockBuilder;
+use bloom::filter::Filter;
 use builder::table_builder::Added;
 use builder::table_builder::Answer;
 use builder::table_builder::Builder;
@@ -10,7 +11,6 @@ use builder::table_builder::Lengths;
 use builder::table_builder::Options;
 use builder::table_builder::Outcome;
 use builder::table_builder::Started;
-use filter_block::filter::Filter;
 use pieces::numbers::number_if;
 
 // A table being built, the builder's state in numbers: filter is 0 for none, else Bloom with so many bits per key; finished is

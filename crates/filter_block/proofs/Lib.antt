@@ -1,5 +1,2 @@
-pub mod HashLaws
-pub mod FilterCode
-pub mod ProbeLaws
 pub mod FilterBlockCode
 pub mod MakeLaws

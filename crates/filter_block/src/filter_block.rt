@@ -8,10 +8,10 @@ ghost use lib.ListN.{length, drop, replicate};
 ghost use lib.Seq.{sets};
 ghost use Rattle.codec.specs.Bytes.{part, numberOf, numbers};
 ghost use Rattle.codec.specs.Put.{Wrote};
-ghost use Rattle.filter_block.specs.Choice.{choiceOf};
+ghost use Rattle.bloom.specs.Choice.{choiceOf};
 ghost use Rattle.filters.specs.FilterBlock.{rising, filterFormed, mayMatch, filterBlockOf};
 ghost use Rattle.filter_block.specs.Make.{groupsUpTo, MadeFilters};
-use crate::filter::Filter;
+use bloom::filter::Filter;
 use codec::fixed::NumberRead;
 use codec::put::Written;
 
@@ -54,7 +54,7 @@ pub fn may_match(block: &[u8], offset: usize, hash: u32) -> bool
     if array < to {
         return true;
     }
-    crate::filter::key_may_match(&block[from..to], hash)
+    bloom::filter::key_may_match(&block[from..to], hash)
 }
 
 // Whether count starts from array on rise or stay, within the filters.
@@ -156,12 +156,12 @@ pub fn make_filters(
         }
         return Made::NoRoom;
     }
-    let more = crate::filter::filter_bytes(choice, hashes.len());
+    let more = bloom::filter::filter_bytes(choice, hashes.len());
     if !fits(filters.len(), bytes, more, offsets.len(), made, n - made) {
         return Made::NoRoom;
     }
     let end = bytes + more;
-    crate::filter::create_filter(choice, hashes, filters, bytes);
+    bloom::filter::create_filter(choice, hashes, filters, bytes);
     write_starts(offsets, made, n - made, bytes as u32, end as u32);
     Made::Filters {
         bytes: end,

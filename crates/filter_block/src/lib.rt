@@ -1,3 +1,2 @@
-// Bloom filters and the filter block: made and asked.
-pub mod filter;
+// The filter block: made and asked.
 pub mod filter_block;

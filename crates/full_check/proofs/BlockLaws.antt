@@ -6,9 +6,9 @@ use mathlib.Core.List.{List}
 use mathlib.Core.Option.{Option, none, some}
 use lib.ListN.{length, take, drop}
 use Rattle.codec.specs.Bytes.{part}
-use Rattle.codec.specs.Checksum.{trailerStands}
+use Rattle.checksum.specs.Checksum.{trailerStands}
 use Rattle.codec.proofs.BytesLaws.{part-between}
-use Rattle.codec.proofs.TrailerLaws.{stands-within}
+use Rattle.checksum.proofs.TrailerLaws.{stands-within}
 use Rattle.codec.proofs.Prelude.{is-true}
 use Rattle.blocks.specs.Block.{Entry, pairsOf}
 use Rattle.blocks.specs.Formed.{Kind, wellFormed, isFormed, rises}

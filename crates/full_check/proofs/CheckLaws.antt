@@ -5,7 +5,7 @@ use mathlib.Core.Bool.{Bool, true, false, _&&_, not}
 use mathlib.Core.List.{List, [], _∷_}
 use mathlib.Core.Option.{Option, none, some}
 use lib.ListN.{length, take, drop}
-use Rattle.codec.specs.Checksum.{trailerStands}
+use Rattle.checksum.specs.Checksum.{trailerStands}
 use Rattle.codec.specs.Varint.{Handle}
 use Rattle.codec.proofs.BytesLaws.{part-between}
 use Rattle.keys.specs.Order.{userOf, below}

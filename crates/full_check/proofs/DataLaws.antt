@@ -8,7 +8,7 @@ use native.Mathlib.Omega.{arith}
 use lib.Dec.{eqb}
 use lib.ListN.{length, take, drop}
 use borrow.Author.Tests.{ne-eqb}
-use Rattle.codec.specs.Checksum.{trailerStands}
+use Rattle.checksum.specs.Checksum.{trailerStands}
 use Rattle.codec.specs.Varint.{Handle}
 use Rattle.codec.proofs.BytesLaws.{part-between}
 use Rattle.block_reader.specs.declared.block.Kind.the-variants as KindCase

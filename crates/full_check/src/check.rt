@@ -130,7 +130,7 @@ fn sorted_in(s: &[u8], kind: Kind) -> Verdict
 fn sorted(table: &[u8], offset: usize, size: usize, kind: Kind) -> Verdict
     ensures { λ r. ⌜ Judged (sortedAt (kindOf kind) (now (table .entry)) (record { offset = offset; size = size })) r ⌝ }
 {
-    if codec::trailer::trailer_stands(table, offset, size) {} else {
+    if checksum::trailer::trailer_stands(table, offset, size) {} else {
         return Verdict::Refused(9);
     }
     let end = offset + size;
@@ -206,7 +206,7 @@ fn in_order(
 fn may_hold(filter: &[u8], offset: usize, key: &[u8]) -> bool
     ensures { λ r. ⌜ r ≡ mayMatch (now (filter .entry)) offset (hash (userOf (now (key .entry)))) ⌝ }
 {
-    let h = filter_block::filter::bloom_hash(keys::key_types::user_key(key));
+    let h = bloom::filter::bloom_hash(keys::key_types::user_key(key));
     filter_block::filter_block::may_match(filter, offset, h)
 }
 
@@ -288,7 +288,7 @@ fn data_at(
     if table_block::footer::placed(table.len(), offset, size) {} else {
         return DataRead::Refused(8);
     }
-    if codec::trailer::trailer_stands(table, offset, size) {} else {
+    if checksum::trailer::trailer_stands(table, offset, size) {} else {
         return DataRead::Refused(9);
     }
     let end = offset + size;
@@ -372,7 +372,7 @@ fn filtered(table: &[u8], d: &[u8], offset: usize, size: usize) -> Verdict
     if table_block::footer::placed(table.len(), offset, size) {} else {
         return Verdict::Refused(8);
     }
-    if codec::trailer::trailer_stands(table, offset, size) {} else {
+    if checksum::trailer::trailer_stands(table, offset, size) {} else {
         return Verdict::Refused(9);
     }
     let end = offset + size;

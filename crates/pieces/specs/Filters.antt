@@ -3,9 +3,9 @@ use Prim.Native.Nat.{ℕ}
 use mathlib.Core.List.{List}
 use Rattle.codec.specs.Shown.{Shown}
 use Rattle.filters.specs.FilterBlock.{Filtering}
-use Rattle.filter_block.specs.Choice.{choiceOf}
+use Rattle.bloom.specs.Choice.{choiceOf}
 use Rattle.filter_block.specs.Make.{MadeFilters}
-use Rattle.filter_block.specs.declared.filter.Filter.the-variants as FilterCase
+use Rattle.bloom.specs.declared.filter.Filter.the-variants as FilterCase
 use Rattle.filter_block.specs.declared.filter_block.Made.{Made}
 use Rattle.filter_block.specs.declared.filter_block.Made.the-variants as MadeCase
 use Rattle.pieces.specs.declared.filter.SalevoniFilters.{SalevoniFilters}

@@ -8,7 +8,7 @@ ghost use Rattle.pieces.specs.Filters.{bloomOf, MadeOut};
 use crate::numbers::SalevoniSize;
 use crate::numbers::number_if;
 use crate::numbers::size_out;
-use filter_block::filter::Filter;
+use bloom::filter::Filter;
 use filter_block::filter_block::Made;
 
 // 0 and how many bytes the filters have now and how many there are, or 2 and zeros without room.
@@ -24,7 +24,7 @@ pub struct SalevoniFilters {
 pub extern "C" fn salevoni_hash(bytes: &[u8]) -> u32
     ensures { λ r. ⌜ r ≡ hash (now (bytes .entry)) ⌝ }
 {
-    filter_block::filter::bloom_hash(bytes)
+    bloom::filter::bloom_hash(bytes)
 }
 
 // How many probes a filter of so many bits per key takes.
@@ -32,7 +32,7 @@ pub extern "C" fn salevoni_hash(bytes: &[u8]) -> u32
 pub extern "C" fn salevoni_probes(bits: u32) -> u32
     ensures { λ r. ⌜ r ≡ probes bits ⌝ }
 {
-    filter_block::filter::probe_count(bits)
+    bloom::filter::probe_count(bits)
 }
 
 // The filter of some hashes at so many bits per key.
@@ -40,7 +40,7 @@ pub extern "C" fn salevoni_probes(bits: u32) -> u32
 pub extern "C" fn salevoni_filter(bits: u32, hashes: &[u32], out: &mut [u8]) -> SalevoniSize
     ensures { λ r. ⌜ WroteOut (now (out .entry)) 0 (filterFor (bloomOf bits) (now (hashes .entry))) r (now (out .exit)) ⌝ }
 {
-    size_out(filter_block::filter::create_filter(Filter::Bits(bits), hashes, out, 0))
+    size_out(bloom::filter::create_filter(Filter::Bits(bits), hashes, out, 0))
 }
 
 // Makes filters until there are count, the first of all hashes, the others empty, behind bytes bytes of made filters.
@@ -96,7 +96,7 @@ pub extern "C" fn salevoni_filter_block_finish(
 pub extern "C" fn salevoni_filter_may(filter: &[u8], hash: u32) -> u32
     ensures { λ r. ⌜ ToldOut (filterMay (now (filter .entry)) hash) 1 0 r ⌝ }
 {
-    number_if(filter_block::filter::key_may_match(filter, hash), 1, 0)
+    number_if(bloom::filter::key_may_match(filter, hash), 1, 0)
 }
 
 // Whether a filter block lets the data block at an offset hold a hash: 1 or 0.

@@ -1,6 +1,6 @@
 // Checksums, keys and separators, and the footer.
 ghost use mathlib.Core.Path.{_≡_};
-ghost use Rattle.codec.specs.Checksum.{crcExtend, crcMask};
+ghost use Rattle.checksum.specs.Checksum.{crcExtend, crcMask};
 ghost use Rattle.keys.specs.Order.{internal, userSep, separator, shortSucc};
 ghost use Rattle.table.specs.Table.{footer};
 ghost use Rattle.table_block.specs.Answers.{footerAnswer};
@@ -54,7 +54,7 @@ pub extern "C" fn salevoni_footer(table: &[u8]) -> SalevoniFooter
 pub extern "C" fn salevoni_crc(crc: u32, bytes: &[u8]) -> u32
     ensures { λ r. ⌜ r ≡ crcExtend crc (now (bytes .entry)) ⌝ }
 {
-    codec::crc::extend(crc, bytes)
+    checksum::crc::extend(crc, bytes)
 }
 
 // The checksum as a table stores it.
@@ -62,7 +62,7 @@ pub extern "C" fn salevoni_crc(crc: u32, bytes: &[u8]) -> u32
 pub extern "C" fn salevoni_mask(crc: u32) -> u32
     ensures { λ r. ⌜ r ≡ crcMask crc ⌝ }
 {
-    codec::crc::mask_crc(crc)
+    checksum::crc::mask_crc(crc)
 }
 
 // The internal key of a word, an edition and a kind.

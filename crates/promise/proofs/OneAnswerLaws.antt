@@ -10,9 +10,9 @@ use lib.Seq.{length-take-le}
 use Rattle.codec.specs.Shown.{Shown}
 use Rattle.codec.proofs.Prelude.{test, split, apart}
 use Rattle.keys.specs.Order.{Point}
-use Rattle.filter_block.specs.Choice.{choiceOf}
-use Rattle.filter_block.specs.declared.filter.Filter.{Filter}
-use Rattle.filter_block.specs.declared.filter.Filter.the-variants as FilterCase
+use Rattle.bloom.specs.Choice.{choiceOf}
+use Rattle.bloom.specs.declared.filter.Filter.{Filter}
+use Rattle.bloom.specs.declared.filter.Filter.the-variants as FilterCase
 use Rattle.table.specs.Checked.{Checked, pass, refuse}
 use Rattle.table.specs.Options.{Options}
 use Rattle.table.specs.Build.{Building, accept}

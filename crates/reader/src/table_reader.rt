@@ -378,7 +378,7 @@ fn may_hold(table: &[u8], meta_at: usize, meta_size: usize, offset: usize, word:
             if footer::placed(table.len(), from, size) {} else {
                 return Held::Refused(8);
             }
-            let hash = filter_block::filter::bloom_hash(word);
+            let hash = bloom::filter::bloom_hash(word);
             if filter_block::filter_block::may_match(part_of(table, from, size), offset, hash) {
                 Held::May
             } else {

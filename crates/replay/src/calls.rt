@@ -10,6 +10,7 @@ use crate::runs::Seven;
 use crate::show;
 use crate::state;
 use block_builder::block_builder::BlockBuilder;
+use bloom::filter::Filter;
 use builder::table_builder;
 use builder::table_builder::Added;
 use builder::table_builder::Answer;
@@ -20,7 +21,6 @@ use builder::table_builder::Options;
 use builder::table_builder::Outcome;
 use builder::table_builder::Started;
 use codec::fixed::NumberRead;
-use filter_block::filter::Filter;
 
 // How long the runs are in use, those of bytes and those of numbers, and the checksums of what is in use; the lengths of the
 // parts lent to calls; the builder's state, and one kept to come back to.

@@ -2,8 +2,8 @@
 use crate::fields;
 use crate::fields::front;
 use crate::show;
-use filter_block::filter as bloom;
-use filter_block::filter::Filter;
+use bloom::filter as bloom;
+use bloom::filter::Filter;
 use filter_block::filter_block as groups;
 use filter_block::filter_block::Made;
 

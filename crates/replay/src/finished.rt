@@ -21,7 +21,7 @@ fn bytes(t: &[u8]) {
     if t.len() <= 300 {
         show::hex(t);
     } else {
-        show::word(codec::crc::extend(0, t));
+        show::word(checksum::crc::extend(0, t));
     }
 }
 
@@ -66,8 +66,8 @@ fn look(t: &[u8], key: &[u8], e: Entry) {
 
 // The checksum with an entry more: key and value, and how long each is.
 fn with_entry(sum: u32, t: &[u8], key: &[u8], e: Entry) -> u32 {
-    let c = codec::crc::extend(state::with_number(sum, e.key_len), key);
-    codec::crc::extend(
+    let c = checksum::crc::extend(state::with_number(sum, e.key_len), key);
+    checksum::crc::extend(
         state::with_number(c, e.value_len),
         table_reader::value(t, e),
     )

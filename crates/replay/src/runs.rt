@@ -26,7 +26,7 @@ fn first_numbers(s: &[u32], len: usize) -> &[u32] {
 fn with_number(c: u32, x: u32) -> u32 {
     let mut four = [0u8; 4];
     codec::fixed::write_u32(&mut four, 0, x);
-    codec::crc::extend(c, &four)
+    checksum::crc::extend(c, &four)
 }
 
 // The checksum of a run of numbers.
@@ -65,9 +65,9 @@ pub fn sums(
     hashes: &[u32; NUMBERS],
 ) -> Seven {
     Seven {
-        out: codec::crc::extend(0, front(out, bytes)),
-        index: codec::crc::extend(0, front(index, bytes)),
-        filters: codec::crc::extend(0, front(filters, bytes)),
+        out: checksum::crc::extend(0, front(out, bytes)),
+        index: checksum::crc::extend(0, front(index, bytes)),
+        filters: checksum::crc::extend(0, front(filters, bytes)),
         restarts: sum(first_numbers(restarts, numbers)),
         index_restarts: sum(first_numbers(index_restarts, numbers)),
         offsets: sum(first_numbers(offsets, numbers)),

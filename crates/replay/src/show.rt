@@ -57,7 +57,7 @@ pub fn shown(s: &[u8]) {
     } else {
         number(s.len());
         say(b":");
-        word(codec::crc::extend(0, s));
+        word(checksum::crc::extend(0, s));
     }
 }
 

@@ -1,10 +1,10 @@
 // The builder's state: its numbers shown, its checksum, and a field of it set to a number.
 use crate::show;
 use block_builder::block_builder::BlockBuilder;
+use bloom::filter::Filter;
 use builder::table_builder::Builder;
 use builder::table_builder::Lengths;
 use builder::table_builder::Options;
-use filter_block::filter::Filter;
 
 // A filter by a number: none, or one bit less than the number.
 pub fn choice(n: usize) -> Filter {
@@ -39,14 +39,14 @@ fn flag(b: bool) -> usize {
 pub fn with_number(c: u32, n: usize) -> u32 {
     let mut eight = [0u8; 8];
     codec::fixed::write_u64(&mut eight, 0, n as u64);
-    codec::crc::extend(c, &eight)
+    checksum::crc::extend(c, &eight)
 }
 
 fn sum_block(c: u32, b: BlockBuilder) -> u32 {
     let a = with_number(with_number(c, b.interval), b.bytes);
     let d = with_number(with_number(a, b.restarts), b.since);
     let last = b.last;
-    codec::crc::extend(with_number(d, b.len), &last)
+    checksum::crc::extend(with_number(d, b.len), &last)
 }
 
 fn sum_lengths(c: u32, l: Lengths) -> u32 {

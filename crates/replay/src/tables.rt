@@ -322,7 +322,7 @@ fn change_byte(out: &mut [u8], i: usize, bits: u8) {
 fn change(out: &mut [u8], i: usize, bits: u8, part: Part) {
     change_byte(out, i, bits);
     if part.sealed {
-        codec::trailer::put_trailer(out, part.at, part.size);
+        checksum::trailer::put_trailer(out, part.at, part.size);
     }
 }
 

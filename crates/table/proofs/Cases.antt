@@ -5,7 +5,7 @@ use mathlib.Core.List.{List, [], _∷_, _++_, map}
 use lib.ListN.{length, drop, replicate}
 use Rattle.codec.specs.Bytes.{fours, bytesOf, common}
 use Rattle.codec.specs.Varint.{varintBytesF, varintBytes, handleBytes}
-use Rattle.codec.specs.Checksum.{trailer, crcBit, crcBits, crcByte, crcOver, crcExtend, crcMask}
+use Rattle.checksum.specs.Checksum.{trailer, crcBit, crcBits, crcByte, crcOver, crcExtend, crcMask}
 use Rattle.keys.specs.Order.{byBytes, bytesBelow, userOf, internal, raisedStart, raisedLast, shortestSep, userSep, lastTag, separator, shortSucc}
 use Rattle.blocks.specs.Block.{headBytes, entryBytes, sharing, since, packed, restartsOf, orZero, tailBytes, blockBytes, lastKeyOf}
 use Rattle.blocks.specs.Formed.{bloomName}

@@ -8,10 +8,10 @@ use lib.ListN.{length, drop, replicate, length-append, length-replicate}
 use lib.Seq.{take-at, drop-append-seam}
 use borrow.Author.Tests.{le-leb}
 use Rattle.codec.specs.Bytes.{part}
-use Rattle.codec.specs.Checksum.{trailer}
+use Rattle.checksum.specs.Checksum.{trailer}
 use Rattle.codec.specs.Varint.{Handle, HandleRead, handle, handleBytes}
 use Rattle.codec.proofs.BytesLaws.{part-first, back-at, same-same}
-use Rattle.codec.proofs.TrailerLaws.{trailer-length, stands-written}
+use Rattle.checksum.proofs.TrailerLaws.{trailer-length, stands-written}
 use Rattle.codec.proofs.VarintLaws.{Fits, handle-bytes, handle-long}
 use Rattle.table.specs.Checked.{pass, _>>=_, ask, orRefuse}
 use Rattle.table.specs.Options.{tableLimit}

@@ -4,7 +4,7 @@ use mathlib.Core.List.{List, [], _∷_, _++_, map}
 use mathlib.Core.Bool.{Bool, true, false}
 use lib.Dec.{ltb, leb}
 use lib.ListN.{length, replicate}
-use Rattle.codec.specs.Checksum.{trailer}
+use Rattle.checksum.specs.Checksum.{trailer}
 use Rattle.codec.specs.Varint.{Handle, handleBytes}
 use Rattle.keys.specs.Order.{internal, separator, below}
 use Rattle.blocks.specs.Block.{Pair, blockBytes, lastKeyOf}

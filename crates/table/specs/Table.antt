@@ -6,7 +6,7 @@ use mathlib.Core.Option.{Option, none, some}
 use lib.Dec.{leb, isEq}
 use lib.ListN.{length, drop}
 use Rattle.codec.specs.Bytes.{part, sameBytes}
-use Rattle.codec.specs.Checksum.{trailerStands}
+use Rattle.checksum.specs.Checksum.{trailerStands}
 use Rattle.codec.specs.Varint.{Handle, handle, oneHandle}
 use Rattle.keys.specs.Order.{userOf, pointOf, byPoint, bytesBelow, below}
 use Rattle.blocks.specs.Block.{Pair, lastKeyOf, Entry, pairsOf, block}

@@ -1,12 +1,12 @@
 // Building the table of the list's entries.
 use crate::list;
 use crate::say;
+use bloom::filter::Filter;
 use builder::table_builder;
 use builder::table_builder::Answer;
 use builder::table_builder::Builder;
 use builder::table_builder::Options;
 use builder::table_builder::Outcome;
-use filter_block::filter::Filter;
 
 // How long the runs are, those of bytes and those of numbers.
 pub const BYTES: usize = 4096;

@@ -48,19 +48,19 @@ fn in_parts(s: &[u8], first: usize) -> u32 {
     if s.len() < first {
         return 0;
     }
-    codec::crc::extend(codec::crc::extend(0, &s[0..first]), &s[first..])
+    checksum::crc::extend(checksum::crc::extend(0, &s[0..first]), &s[first..])
 }
 
 // The checksum of s, masked, and the same in two parts.
 fn crc(name: &[u8], s: &[u8]) {
-    let whole = codec::crc::extend(0, s);
+    let whole = checksum::crc::extend(0, s);
     let parts = in_parts(s, s.len() / 2);
     say(b"crc32c of ");
     say(name);
     say(b": ");
     word(whole);
     say(b", masked ");
-    word(codec::crc::mask_crc(whole));
+    word(checksum::crc::mask_crc(whole));
     if parts == whole {
         say(b", the same in two parts\n");
     } else {
@@ -72,7 +72,7 @@ fn mask(x: u32) {
     say(b"mask of ");
     word(x);
     say(b": ");
-    word(codec::crc::mask_crc(x));
+    word(checksum::crc::mask_crc(x));
     say(b"\n");
 }
 
@@ -207,7 +207,7 @@ fn put(at: usize, s: &[u8]) {
 }
 
 fn stands(t: &[u8; 16], offset: usize, size: usize) {
-    if codec::trailer::trailer_stands(t, offset, size) {
+    if checksum::trailer::trailer_stands(t, offset, size) {
         say(b" stands");
     } else {
         say(b" not");
@@ -223,7 +223,7 @@ fn trailer(s: &[u8]) {
     bytes(s);
     codec::put::put_bytes(&mut run, 1, s);
     say(b":");
-    written(codec::trailer::put_trailer(&mut run, 1, size));
+    written(checksum::trailer::put_trailer(&mut run, 1, size));
     say(b", ");
     bytes(&run);
     stands(&run, 1, size);

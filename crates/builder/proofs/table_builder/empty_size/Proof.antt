@@ -1,5 +1,5 @@
 -- `builder::table_builder::empty_size` meets its contract.
-use Rattle.filter_block.specs.Choice.{choiceOf}
+use Rattle.bloom.specs.Choice.{choiceOf}
 use Rattle.table.specs.Options.{emptySize}
 use borrow.Author.Needs.{needs}
 use Rattle.builder.proofs.table_builder.empty_size.Statement.{statement}

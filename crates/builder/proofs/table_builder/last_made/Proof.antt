@@ -1,7 +1,7 @@
 -- `builder::table_builder::last_made` meets its contract.
 use mathlib.Core.Path.{sym, _∙_}
 use Rattle.filters.proofs.FilterCountLaws.{none-waits, some-wait}
-use Rattle.filter_block.specs.Choice.{choiceOf}
+use Rattle.bloom.specs.Choice.{choiceOf}
 use Rattle.builder.specs.Steps.{filterCountIn}
 use borrow.Author.Needs.{needs}
 use Rattle.builder.proofs.table_builder.last_made.Statement.{statement}

@@ -3,7 +3,7 @@ use native.Mathlib.Omega.{arith}
 use mathlib.Core.Path.{sym, ap, _∙_}
 use Prim.Native.Nat.{ℕ, _+_}
 use Rattle.filters.proofs.FilterCountLaws.{made-over, made-enough}
-use Rattle.filter_block.specs.Choice.{choiceOf}
+use Rattle.bloom.specs.Choice.{choiceOf}
 use Rattle.builder.specs.Steps.{filterCountIn}
 use Rattle.builder.proofs.SizeLaws.{more-bytes}
 use borrow.Author.Needs.{needs}

@@ -2,7 +2,7 @@
 use Prim.Native.Nat.{_+_}
 use native.Mathlib.Omega.{arith}
 use Rattle.codec.proofs.VarintLaws.{varint-bytes-length}
-use Rattle.filter_block.specs.Choice.{choiceOf}
+use Rattle.bloom.specs.Choice.{choiceOf}
 use Rattle.builder.proofs.SizeLaws.{meta-is, name-most}
 use borrow.Author.Needs.{needs}
 use Rattle.builder.proofs.table_builder.meta_size.Statement.{statement}

@@ -3,7 +3,7 @@ use mathlib.Core.Path.{ap}
 use lib.ListN.{length}
 use Rattle.blocks.specs.Formed.{bloomName}
 use Rattle.builder.proofs.SizeLaws.{name-is}
-use Rattle.filter_block.specs.Choice.{choiceOf}
+use Rattle.bloom.specs.Choice.{choiceOf}
 use Rattle.table.specs.Build.{metaName}
 use borrow.Author.Needs.{needs}
 use Rattle.builder.proofs.table_builder.name_len.Statement.{statement}

@@ -5,7 +5,7 @@ use lib.Seq.{length-take-le}
 use Rattle.blocks.specs.Formed.{bloomName}
 use Rattle.table.specs.Build.{metaName}
 use Rattle.codec.specs.Varint.{handleBytes}
-use Rattle.filter_block.specs.Choice.{choiceOf}
+use Rattle.bloom.specs.Choice.{choiceOf}
 use Rattle.codec.proofs.PutLaws.{front-never, front-put}
 use Rattle.codec.proofs.VarintLaws.{handle-long}
 use Rattle.builder.proofs.FinishLaws.{meta-framed}

@@ -5,7 +5,7 @@ use native.Mathlib.Omega.{arith}
 use lib.ListN.{length}
 use borrow.Author.Needs.{needs}
 use borrow.Author.Tests.{not-true, not-false}
-use Rattle.filter_block.specs.Choice.{choiceOf}
+use Rattle.bloom.specs.Choice.{choiceOf}
 use Rattle.filter_block.proofs.MakeLaws.{Fitting, fits-yes, refused, room-none, none-made, room-some, some-made}
 use Rattle.filter_block.proofs.filter_block.make_filters.Statement.{statement}
 use Rattle.filter_block.proofs.filter_block.make_filters.Tie as tie

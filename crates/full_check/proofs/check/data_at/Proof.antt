@@ -5,7 +5,7 @@ use native.Mathlib.Omega.{arith}
 use Rattle.blocks.specs.Block.{Pair}
 use Rattle.table.specs.Checked.{Checked}
 use Rattle.full_check.specs.Steps.{DataJudged}
-use Rattle.codec.proofs.TrailerLaws.{stands-within}
+use Rattle.checksum.proofs.TrailerLaws.{stands-within}
 use Rattle.full_check.proofs.DataLaws.{data-out, data-unsealed, data-sealed}
 use borrow.Author.Needs.{needs}
 use Rattle.full_check.proofs.check.data_at.Statement.{statement}

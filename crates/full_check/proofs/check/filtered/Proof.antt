@@ -2,7 +2,7 @@
 use mathlib.Core.Path.{sym, ap, _∙_}
 use native.Mathlib.Omega.{arith}
 use Rattle.full_check.specs.Answers.{verdictOf}
-use Rattle.codec.proofs.TrailerLaws.{stands-within}
+use Rattle.checksum.proofs.TrailerLaws.{stands-within}
 use Rattle.full_check.proofs.DataLaws.{refused}
 use Rattle.full_check.proofs.CheckLaws.{filter-out, filter-unsealed, filter-malformed, filter-stands}
 use borrow.Author.Needs.{needs}

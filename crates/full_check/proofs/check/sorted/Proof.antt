@@ -5,7 +5,7 @@ use native.Mathlib.Omega.{arith}
 use Rattle.blocks.specs.Block.{Entry}
 use Rattle.table.specs.Checked.{Checked}
 use Rattle.full_check.specs.Steps.{Judged}
-use Rattle.codec.proofs.TrailerLaws.{stands-within}
+use Rattle.checksum.proofs.TrailerLaws.{stands-within}
 use Rattle.full_check.proofs.BlockLaws.{sorted-unsealed, sorted-sealed}
 use borrow.Author.Needs.{needs}
 use Rattle.full_check.proofs.check.sorted.Statement.{statement}

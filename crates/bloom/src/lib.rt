@@ -1,0 +1,2 @@
+// Bloom filters: made and asked.
+pub mod filter;

@@ -1,0 +1,2 @@
+pub mod CrcLaws
+pub mod TrailerLaws
