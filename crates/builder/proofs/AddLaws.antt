@@ -1,5 +1,5 @@
 -- Add: what its steps come to.
-use Prim.Native.Nat.{ℕ, zero, suc, _≤_}
+use Prim.Native.Nat.{ℕ, zero, suc, _/_, _≤_}
 use mathlib.Core.Path.{_≡_, refl, sym, ap, _∙_}
 use mathlib.Core.Logic.{_⊎_, inl, inr}
 use mathlib.Core.List.{List, [], _∷_, _++_}
@@ -15,6 +15,8 @@ use Rattle.table.proofs.CheckedLaws.{refuse-pass}
 use Rattle.table.specs.Runs.{Runs, between, overlaid, FitsRoom, roomOf}
 use Rattle.table.proofs.AcceptLaws.{took, accept-more}
 use Rattle.table.proofs.SufficeLaws.{runs-suffice}
+use Rattle.bloom.specs.Choice.{choiceOf}
+use Rattle.table_write.specs.Writes.{ClosedOut, ClosedIndex, MoreFilters, EnteredRuns}
 use Rattle.builder.specs.declared.table_builder.Answer.{Answer}
 use Rattle.builder.specs.declared.table_builder.Answer.the-variants as AnswerCase
 use Rattle.builder.specs.declared.table_builder.Lengths.{Lengths}
@@ -22,10 +24,9 @@ use Rattle.builder.specs.declared.table_builder.Builder.{Builder}
 use Rattle.builder.specs.declared.table_builder.Plan.{Plan}
 use Rattle.builder.specs.declared.table_builder.Added.{Added}
 use Rattle.builder.specs.State.{lengthsOf, seven, sane, Stands}
-use Rattle.builder.specs.Steps.{Whole, Ready, earlyOf, midOf, nextOf, enteredState, decideOf, DecidedIs, cutOf, sepOf}
-use Rattle.builder.specs.Writes.{ClosedOut, ClosedIndex, ClosedFilters, EnteredRuns}
+use Rattle.builder.specs.Steps.{endsAt, Whole, Ready, earlyOf, midOf, nextOf, enteredState, decideOf, DecidedIs, cutOf, sepOf}
 use Rattle.builder.specs.Answers.{answerOf, Later, Traced, AddedIs}
-use Rattle.builder.proofs.CloseLaws.{Counted, ClosedRuns, closed-kept, indexKey, index-key-closed, closed-all}
+use Rattle.builder.proofs.CloseLaws.{Counted, ClosedRuns, closed-kept, more-until, ends-closed, indexKey, index-key-closed, closed-all}
 use Rattle.builder.proofs.DecideLaws.{early-sane, mid-is}
 use Rattle.builder.proofs.EnterLaws.{enter-fits, entered-all}
 use Rattle.builder.proofs.TraceLaws.{refusalOf, lengths-of, start-lengths, overlaid-itself, stands-counted, cut-close, no-cut-close, sep-short, mid-counted, roomy, addition-short, trace-began, trace-fits, trace-sane, trace-is-small, trace-next, trace-whole, trace-decides, next-short, next-lengths, mid-same}
@@ -57,6 +58,10 @@ pub record PutIs (s : Builder) (l : Lengths) (key word value : List ℕ) (r r′
   pub state : number ≡ 0 → x .state ≡ nextOf s key (length value)
   pub wrote : number ≡ 0 → PutRuns s key word value r r′
 
+-- a cut ends where the open block does
+cut-ends : (s : Builder) (key : List ℕ) {t : Bool} → t ≡ cutOf s → t ≡ true → midOf s key .written ≡ endsAt s
+cut-ends s key e u = ap (λ (x : Builder). x .written) (sym (mid-is s key (sym u ∙ e))) ∙ ends-closed s (sepOf s key)
+
 module _ (s : Builder) (l : Lengths) (key word value : List ℕ) (r : Runs) where
   numbered-not : (n : ℕ) → (n ≡ 0 → ⊥) → AnswerCase.Refused n ≡ numbered n
   unfolding numbered
@@ -77,16 +82,16 @@ module _ (s : Builder) (l : Lengths) (key word value : List ℕ) (r : Runs) wher
       }
 
   pub put-done : {p : Plan} → DecidedIs s l key (length value) p → p .answer ≡ 0 → {out₁ index₁ filters₁ indexRestarts₁ offsets₁ out₂ restarts₂ hashes₂ : List ℕ}
-      → ClosedOut (p .cut) s (r .out) out₁ (r .restarts)
-      → ClosedIndex (p .cut) s (take (p .next .indexed .len) (p .next .indexed .last)) (r .index) index₁ (r .indexRestarts) indexRestarts₁
-      → ClosedFilters (p .cut) s (r .filters) filters₁ (r .offsets) offsets₁ (r .hashes)
+      → ClosedOut (p .cut) (s .pending) (s .written) (r .out) out₁ (r .restarts)
+      → ClosedIndex (p .cut) (s .pending) (s .written) (s .indexed) (take (p .next .indexed .len) (p .next .indexed .last)) (r .index) index₁ (r .indexRestarts) indexRestarts₁
+      → MoreFilters (p .cut) (choiceOf (s .options .filter)) (p .next .written / 2048) (s .waiting) (s .filtered) (s .made) (r .filters) filters₁ (r .offsets) offsets₁ (r .hashes)
       → EnteredRuns (p .pending) (p .next .written) (p .waiting) key word value out₁ out₂ (r .restarts) restarts₂ (r .hashes) hashes₂
       → PutIs s l key word value r (seven out₂ index₁ filters₁ restarts₂ indexRestarts₁ offsets₁ hashes₂) (record { answer = AnswerCase.Ok; state = p .next })
   put-done {p} h z {out₁} {index₁} {filters₁} {indexRestarts₁} {offsets₁} o i f e =
       let x : indexKey (p .next) ≡ indexKey (midOf s key) = ap indexKey (h .next z) ∙ (unfold indexKey nextOf enteredState in refl) in
       let w : p .next .written ≡ midOf s key .written = ap (λ (n : Builder). n .written) (h .next z) ∙ (unfold nextOf enteredState in refl) in
       let c : ClosedRuns (p .cut) s (indexKey (p .next)) r (seven out₁ index₁ filters₁ (r .restarts) indexRestarts₁ offsets₁ (r .hashes)) =
-      unfold indexKey in record { out = o; index = i; filters = f; restarts = refl; hashes = refl } in
+      record { out = o; index = (unfold indexKey in i); filters = more-until (λ u. w ∙ cut-ends s key (h .cut z) u) f; restarts = refl; hashes = refl } in
       record {
         number = p .answer;
         kind = h .kind;

@@ -3,25 +3,24 @@ use Prim.Native.Nat.{ℕ, _+_, _-_, _/_, _^_, _≤_, _<_}
 use mathlib.Core.Path.{_≡_, refl, sym, ap, ap₂, _∙_}
 use mathlib.Core.List.{List, [], _∷_, _++_, map, append-nil}
 use mathlib.Core.Bool.{Bool, true, false}
-use native.Mathlib.Nat.{zero-add, add-zero}
+use native.Mathlib.Nat.{zero-add}
 use native.Mathlib.Omega.{arith}
 use lib.ListN.{length, take, drop, length-append, length-replicate}
-use borrow.Author.Tests.{le-leb, lt-ltb}
+use borrow.Author.Tests.{le-leb}
 use Rattle.codec.specs.Bytes.{part}
 use Rattle.checksum.specs.Checksum.{trailer}
 use Rattle.codec.specs.Put.{room, put}
 use Rattle.codec.specs.Varint.{handleBytes}
-use Rattle.codec.proofs.PutLaws.{put-put, put-behind, put-start, put-length}
+use Rattle.codec.proofs.PutLaws.{put-put, put-start, put-length}
 use Rattle.checksum.proofs.TrailerLaws.{trailer-length}
 use Rattle.codec.proofs.VarintLaws.{handle-long}
 use Rattle.block_builder.specs.declared.block_builder.BlockBuilder.{BlockBuilder}
 use Rattle.block_builder.specs.declared.block_builder.Added.{Added}
 use Rattle.blocks.specs.Block.{Pair, packed, restartsOf}
-use Rattle.blocks.specs.Count.{BlockCount, countOf, countEntry, countSize}
+use Rattle.blocks.specs.Count.{countSize}
 use Rattle.block_builder.specs.Builder as Blocks
-use Rattle.block_builder.specs.Builder.{countIn, newBuilder, builderAfter, builderWith, addable, countable, AddedIs, Counting}
+use Rattle.block_builder.specs.Builder.{newBuilder, builderAfter, builderWith, AddedIs, Counting}
 use Rattle.block_builder.proofs.BuilderLaws.{stands-more, stands-finish, added-kept}
-use Rattle.block_builder.proofs.BuilderCode.{addable-room, room-mark}
 use Rattle.filters.specs.FilterBlock.{Filtering, Filters, noFilters, filtersUpTo, madeBytes, starts}
 use Rattle.filter_block.specs.declared.filter_block.Made.{Made}
 use Rattle.filters.specs.FilterCount.{FilterCount, filterCountOf}
@@ -39,8 +38,9 @@ use Rattle.table.proofs.CountsLaws.{wait-none, handle-length, chunk-size, count
 use Rattle.builder.specs.declared.table_builder.Builder.{Builder}
 use Rattle.builder.specs.State.{optionsOf, countsIn}
 use Rattle.builder.specs.Steps.{Small, Whole, openSize, endsAt, closeIn, closedState}
-use Rattle.builder.specs.Writes.{tailedOut, sealedOut, ClosedOut, ClosedIndex, ClosedFilters}
-use Rattle.builder.proofs.SizeLaws.{closed-counts, index-countable}
+use Rattle.table_write.specs.Writes.{sizeOf, tailedOut, sealedOut, ClosedOut, ClosedIndex, MoreFilters}
+use Rattle.table_write.proofs.EntryLaws.{counted-long, fits-addable, part-put}
+use Rattle.builder.proofs.SizeLaws.{size-exact, closed-counts, index-countable}
 use Rattle.table.proofs.OverlayLaws.{overlay-none, overlay-front, overlay-of, overlay-long, overlay-put, overlay-first, overlay-same, each, all-seven}
 use Rattle.builder.proofs.GroupLaws.{filters-until, waits-until, starts-append}
 
@@ -63,12 +63,7 @@ pub record Lens (d : Runs) (s : Builder) : Type 0 where
   pub offsets : length (d .offsets) ≡ s .made
   pub hashes : length (d .hashes) ≡ s .waiting
 
--- a block that counts its entries: their bytes and restarts
-pub counted-long : {i : ℕ} {ps : List Pair} {b : BlockBuilder} → Counting i ps b → (b .bytes ≡ length (packed i i [] ps)) × (b .restarts ≡ length (restartsOf i i [] 0 ps))
-unfolding countIn countOf
-counted-long c = (ap (λ (x : BlockCount). x .bytes) (c .counts), ap (λ (x : BlockCount). x .restarts) (c .counts))
-
--- and stands behind some bytes of runs that hold it
+-- a block that counts its entries stands behind some bytes of runs that hold it
 stands-in : {i : ℕ} {ps : List Pair} {b : BlockBuilder} → Counting i ps b → (w : List ℕ) {at : ℕ} → at ≡ length w → {e q : List ℕ} (r r′ : List ℕ) → e ≡ overlay (w ++ packed i i [] ps) r
     → q ≡ overlay (restartsOf i i [] 0 ps) r′ → Blocks.Stands i ps b at e q
 stands-in {i} {ps} c w n {e} {q} r r′ p m =
@@ -140,9 +135,9 @@ module _ {o : Options} {b : Building} {s : Builder} (h : Counted o b s) where
 -- ---- the open block closed, or not: what that leaves in the runs
 
 pub record ClosedRuns (closing : Bool) (s : Builder) (key : List ℕ) (r r′ : Runs) : Type 0 where
-  pub out : ClosedOut closing s (r .out) (r′ .out) (r .restarts)
-  pub index : ClosedIndex closing s key (r .index) (r′ .index) (r .indexRestarts) (r′ .indexRestarts)
-  pub filters : ClosedFilters closing s (r .filters) (r′ .filters) (r .offsets) (r′ .offsets) (r .hashes)
+  pub out : ClosedOut closing (s .pending) (s .written) (r .out) (r′ .out) (r .restarts)
+  pub index : ClosedIndex closing (s .pending) (s .written) (s .indexed) key (r .index) (r′ .index) (r .indexRestarts) (r′ .indexRestarts)
+  pub filters : MoreFilters closing (choiceOf (s .options .filter)) (endsAt s / 2048) (s .waiting) (s .filtered) (s .made) (r .filters) (r′ .filters) (r .offsets) (r′ .offsets) (r .hashes)
   pub restarts : r′ .restarts ≡ r .restarts
   pub hashes : r′ .hashes ≡ r .hashes
 
@@ -155,6 +150,15 @@ closed-kept g e =
     let x₄ = g .hashes in
     λ i. record { out = x₀ i; index = x₁ .0 i; filters = x₂ .0 i; restarts = x₃ i; indexRestarts = x₁ .1 i; offsets = x₂ .1 i; hashes = x₄ i }
 
+-- the same filters, if it is closed at the end of another state
+pub more-until : {more : Bool} {c : Filtering} {at n waiting bytes made : ℕ} {f f′ q q′ hs : List ℕ} → (more ≡ true → at ≡ n) → MoreFilters more c (at / 2048) waiting bytes made f f′ q q′ hs
+    → MoreFilters more c (n / 2048) waiting bytes made f f′ q q′ hs
+more-until e g = record { said = g .said; done = λ t. rw (e t) at (g .done t); kept = g .kept }
+
+pub ends-closed : (s : Builder) (key : List ℕ) → closedState s key .written ≡ endsAt s
+unfolding closedState closeIn
+ends-closed s key = refl
+
 -- the key that the last block was indexed under
 unfoldable pub indexKey : Builder → List ℕ
 indexKey s = take (s .indexed .len) (s .indexed .last)
@@ -162,16 +166,6 @@ indexKey s = take (s .indexed .len) (s .indexed .last)
 pub index-key-closed : (s : Builder) (key : List ℕ) → length key ≤ 1032 → length (s .indexed .last) ≡ 1032 → indexKey (closedState s key) ≡ key
 unfolding indexKey closedState builderAfter builderWith
 index-key-closed s key k w = put-start (s .indexed .last) key (length key) refl (omega arith)
-
--- ---- an entry that fits
-
-pub fits-addable : (b : BlockBuilder) (at : ℕ) (out restarts key value : List ℕ) → countable b key (length value) ≡ true
-    → at + builderAfter b key (length value) .bytes ≤ length out → builderAfter b key (length value) .restarts ≤ length restarts → b .bytes < 2 ^ 32
-    → addable b at out restarts key value ≡ true
-unfolding builderAfter builderWith
-fits-addable b at out restarts key value c x y m =
-    let e = countEntry (b .interval) (countIn b) key (length value) in
-    addable-room b at out restarts key value c ∙ sym (room-mark (length out) at (e .bytes) (length restarts) (e .restarts) (b .bytes) x y) ∙ lt-ltb (b .bytes) (2 ^ 32) m
 
 -- a block at the front of two runs
 pub entry-overlay : {i : ℕ} {qs : List Pair} {b : BlockBuilder} {x y : List ℕ} (x₀ y₀ : List ℕ) → Blocks.Stands i qs b 0 x y → drop (0 + b .bytes) x ≡ drop (0 + b .bytes) x₀ → drop (b .restarts) y ≡ drop (b .restarts) y₀
@@ -217,11 +211,6 @@ pub options-are : (s : Builder) (o : Options) → optionsOf (s .options) ≡ o �
 unfolding optionsOf
 options-are s o e = (ap (λ (x : Options). x .interval) e, ap (λ (x : Options). x .filtering) e)
 
-pub part-put : (d : List ℕ) (at : ℕ) (bs : List ℕ) → at + length bs ≤ length d → part (put d at bs) at (length bs) ≡ bs
-part-put d at bs h =
-    let e = put-behind d at 0 bs (omega arith) in
-    unfold part in rw (add-zero at, zero-add (length bs)) at e
-
 module _ {o : Options} {b : Building} {s : Builder} (h : Counted o b s) (m : Small s) (key : List ℕ) (k : length key ≤ 1032) where
   pub closed-counted : Counted o (close key b) (closedState s key)
   closed-counted =
@@ -244,6 +233,10 @@ module _ {o : Options} {b : Building} {s : Builder} (h : Counted o b s) (m : Sma
   abbrev chunk : Chunk
   chunk = record { additions = b .openBlock; key = key }
 
+  size-open : sizeOf (s .pending) ≡ openSize s
+  unfolding sizeOf
+  size-open = size-exact s m refl
+
   -- the output
   out-is : between o d .out ≡ written o (b .closed) ++ framed (chunkBytes o (b .openBlock))
   unfolding between held close entriesOf packed written
@@ -264,7 +257,7 @@ module _ {o : Options} {b : Building} {s : Builder} (h : Counted o b s) (m : Sma
       let y = written-is h in
       let fit : at + length e ≤ length out = omega arith in
       let t : tailedOut out at (s .pending) rs ≡ put out at e = unfold tailedOut chunkBytes in stands-finish st (record { said = refl; left = refl }) .left in
-      let z : countSize (countIn (s .pending)) ≡ length e = unfold openSize in open-size h in
+      let z : sizeOf (s .pending) ≡ length e = size-open ∙ open-size h in
       ap₂ (λ (x : List ℕ) (c : ℕ). put x (at + c) (trailer (part x at c))) t z
       ∙ ap (λ (x : List ℕ). put (put out at e) (at + length e) (trailer x)) (part-put out at e fit)
       ∙ put-put out at e (trailer e) (omega (arith, trailer-length e))
@@ -349,7 +342,7 @@ module _ {o : Options} {b : Building} {s : Builder} (h : Counted o b s) (m : Sma
       → r′ ≡ overlaid (between o d) r
   closed-all room r r′ z t u p y g =
       let e = each p in
-      let ix = closed-index (r .index) (r .indexRestarts) (g .index .done y) (e .index) (e .indexRestarts) (omega (arith, u .index, z .index)) (omega (arith, u .indexRestarts, z .indexRestarts)) (omega (arith, t .index, z .limit)) in
+      let ix = closed-index (r .index) (r .indexRestarts) (rw size-open at (g .index .done y)) (e .index) (e .indexRestarts) (omega (arith, u .index, z .index)) (omega (arith, u .indexRestarts, z .indexRestarts)) (omega (arith, t .index, z .limit)) in
       let fx = closed-filters (r .filters) (r .offsets) (r .hashes) (g .filters .done y) (e .hashes) (e .filters) (e .offsets) (omega (arith, u .filters, z .filters)) (omega (arith, u .offsets, z .offsets)) (omega (arith, u .filters, z .limit)) in
       all-seven (record {
         out = g .out .done y ∙ closed-out (r .out) (r .restarts) (e .out) (e .restarts) (omega (arith, u .out, z .out));

@@ -31,10 +31,11 @@ use Rattle.table.proofs.SufficeLaws.{Rooms}
 use Rattle.builder.specs.declared.table_builder.Builder.{Builder}
 use Rattle.builder.specs.State.{countsIn}
 use Rattle.builder.specs.Steps.{Roomy, enteredState}
-use Rattle.builder.specs.Writes.{EnteredRuns}
-use Rattle.builder.proofs.SizeLaws.{count-after, countable-small}
+use Rattle.table_write.specs.Writes.{EnteredRuns}
+use Rattle.table_write.proofs.EntryLaws.{countable-small, counted-long, fits-addable}
+use Rattle.builder.proofs.SizeLaws.{count-after}
 use Rattle.table.proofs.OverlayLaws.{overlay-behind, overlay-of, overlay-put, overlay-first, overlay-at, overlay-long, Each, each, all-seven}
-use Rattle.builder.proofs.CloseLaws.{Counted, counted-long, counting, lens, open-stands, written-is, filters-are, fits-addable}
+use Rattle.builder.proofs.CloseLaws.{Counted, counting, lens, open-stands, written-is, filters-are}
 
 -- the building with an addition in the open block
 abbrev pub with : Building → Addition → Building

@@ -1,9 +1,9 @@
 -- Finish, of a state and runs that stand for a table.
-use Prim.Native.Nat.{ℕ, _+_, _-_, _/_, _^_, _≤_, _<_}
+use Prim.Native.Nat.{ℕ, _+_, _-_, _/_, _≤_}
 use mathlib.Core.Path.{_≡_, refl, sym, ap, ap₂, _∙_}
 use mathlib.Core.Logic.{_⊎_, inl, inr}
 use mathlib.Core.List.{List, [], _∷_, _++_, map, append-nil}
-use mathlib.Core.Bool.{Bool, true, not}
+use mathlib.Core.Bool.{Bool, true, not, false≢true}
 use native.Mathlib.Omega.{arith}
 use lib.Dec.{eqb}
 use lib.ListN.{length, take}
@@ -19,7 +19,7 @@ use Rattle.filters.specs.FilterCount.{FilterCount, filterCountOf, countLast}
 use Rattle.bloom.specs.Choice.{choiceOf}
 use Rattle.filter_block.specs.Make.{groupsUpTo, MadeFilters}
 use Rattle.filters.proofs.FilterBlockLaws.{starts-length, last-of}
-use Rattle.filters.proofs.FilterCountLaws.{count-last, last-kept}
+use Rattle.filters.proofs.FilterCountLaws.{made-over, some-wait, count-last, last-kept}
 use Rattle.table.specs.Checked.{pass}
 use Rattle.table.specs.Options.{Options, indexInterval, Addition}
 use Rattle.table.specs.Build as Build
@@ -29,20 +29,20 @@ use Rattle.table.specs.Counts.{finishedSize}
 use Rattle.table.proofs.StepLaws as Step
 use Rattle.table.proofs.CountsLaws.{size-finished, no-open, last-filters}
 use Rattle.table.proofs.SufficeLaws.{Rooms}
+use Rattle.table_write.specs.Writes.{ClosedOut, ClosedIndex, MoreFilters, filterBlock, metaBlock, EndFits, EndPut, EndWritten}
 use Rattle.builder.specs.declared.table_builder.Builder.{Builder}
 use Rattle.builder.specs.declared.table_builder.FilterSizes.{FilterSizes}
 use Rattle.builder.specs.declared.table_builder.Ending.{Ending}
 use Rattle.builder.specs.declared.table_builder.Outcome.the-variants as OutcomeCase
 use Rattle.builder.specs.State.{optionsOf, countsIn, lengthsOf, seven, sane, Stands}
-use Rattle.builder.specs.Steps.{small, Small, filterCountIn, filtersIn, lastOf, closedState, lastState, earlyOf, lastFilters, endable, EndingIs}
-use Rattle.builder.specs.Writes.{ClosedOut, ClosedIndex, ClosedFilters, LastFilters, filterBlock, metaBlock, EndFits, EndPut}
+use Rattle.builder.specs.Steps.{Small, filterCountIn, filtersIn, lastOf, endsAt, closedState, lastState, earlyOf, lastFilters, endable, EndingIs}
 use Rattle.builder.specs.Answers.{overState, FinishedIs}
 use Rattle.builder.proofs.SizeLaws as Size
 use Rattle.builder.proofs.DecideLaws.{sane-is, last-short, early-sane}
 use Rattle.builder.proofs.AddLaws.{early-zero}
 use Rattle.table.proofs.OverlayLaws.{overlay-none, overlay-front, Each, each, all-seven}
 use Rattle.filter_block.proofs.MakeLaws.{groups-some}
-use Rattle.builder.proofs.CloseLaws.{Counted, ClosedRuns, closed-kept, indexKey, index-key-closed, lens, counting, index-stands, filters-is, filters-are, written-is, options-are, made-overlay, closed-counted, waits-close, closed-all}
+use Rattle.builder.proofs.CloseLaws.{Counted, ClosedRuns, closed-kept, more-until, ends-closed, indexKey, index-key-closed, lens, counting, index-stands, filters-is, filters-are, written-is, options-are, made-overlay, closed-counted, waits-close, closed-all}
 use Rattle.builder.proofs.TraceLaws.{stands-counted, trace-began, trace-fits, trace-small, trace-is-small, trace-sane, last-is}
 
 -- ---- what the last writes leave in the runs
@@ -56,8 +56,8 @@ pub record LastRuns (s : Builder) (r r′ : Runs) : Type 0 where
 pub record EndRuns (s last : Builder) (f : FilterSizes) (r r′ : Runs) : Type 0 where
   pub mid : Runs
   pub closed : LastRuns s r mid
-  pub filters : LastFilters last (mid .filters) (r′ .filters) (mid .offsets) (r′ .offsets) (mid .hashes)
-  pub out : EndPut last f (r′ .filters) (r′ .offsets) (mid .index) (mid .indexRestarts) (mid .out) (r′ .out)
+  pub filters : MoreFilters (not (eqb (last .waiting) 0)) (choiceOf (s .options .filter)) (f .made) (last .waiting) (last .filtered) (last .made) (mid .filters) (r′ .filters) (mid .offsets) (r′ .offsets) (mid .hashes)
+  pub out : EndPut (s .options .interval) (choiceOf (s .options .filter)) (last .written) (f .bytes) (f .made) (last .indexed) (r′ .filters) (r′ .offsets) (mid .index) (mid .indexRestarts) (mid .out) (r′ .out)
   pub index : r′ .index ≡ mid .index
   pub indexRestarts : r′ .indexRestarts ≡ mid .indexRestarts
   pub restarts : r′ .restarts ≡ r .restarts
@@ -170,12 +170,20 @@ module _ (o : Options) (more : List Addition) (b : Building) (s : Builder) (r : 
     mids = each mid-runs
 
     -- the last filter
-    module _ (f′ q′ : List ℕ) (k : LastFilters mid (r₁ .filters) f′ (r₁ .offsets) q′ (r₁ .hashes)) where
+    module _ (f : FilterSizes) (ef : filterCountIn f ≡ lastFilters s) (f′ q′ : List ℕ)
+        (k : MoreFilters (not (eqb (mid .waiting) 0)) (choiceOf (s .options .filter)) (f .made) (mid .waiting) (mid .filtered) (mid .made) (r₁ .filters) f′ (r₁ .offsets) q′ (r₁ .hashes)) where
       abbrev ch : Filtering
       ch = o .filtering
 
-      mid-filter : choiceOf (mid .options .filter) ≡ ch
-      mid-filter = options-are mid o (last-counted .options) .1
+      filtering : choiceOf (s .options .filter) ≡ ch
+      filtering = options-are s o (t .options) .1
+
+      one-made : (mid .waiting ≡ 0 → ⊥) → f .made ≡ mid .made + 1
+      unfolding filterCountIn lastFilters filtersIn
+      one-made z =
+          let d : FilterCount = record { bytes = mid .filtered; made = mid .made; waiting = mid .waiting } in
+          let w = choiceOf (s .options .filter) in
+          ap (λ (x : FilterCount). x .made) (ef ∙ some-wait w d z ∙ made-over w (mid .made + 1) d (omega arith))
 
       pub last-runs : (f′ ≡ overlay (madeBytes ch (lastFilter fs .made)) (r .filters)) × (q′ ≡ overlay (starts ch 0 (lastFilter fs .made)) (r .offsets))
       unfolding between held makeFilter
@@ -185,19 +193,21 @@ module _ (o : Options) (more : List Addition) (b : Building) (s : Builder) (r : 
           Left g = length (madeBytes ch (g .made)) ≤ room → length (starts ch 0 (g .made)) ≤ room / 4 → (f′ ≡ overlay (madeBytes ch (g .made)) (r .filters)) × (q′ ≡ overlay (starts ch 0 (g .made)) (r .offsets))
 
           none : fs .waiting ≡ [] → Left fs
-          none e lf lq = let p = k .none (filters-are last-counted .2 ∙ ap length e) in (p .0 ∙ mids .filters, p .1 ∙ mids .offsets)
+          none e lf lq = let p = k .kept (ap not (eq-eqb (mid .waiting) 0 (filters-are last-counted .2 ∙ ap length e))) in (p .0 ∙ mids .filters, p .1 ∙ mids .offsets)
 
           some : (x : ℕ) (xs : List ℕ) → fs .waiting ≡ x ∷ xs → Left (makeFilter fs)
           some x xs e lf lq =
               let n = filters-are last-counted in
               let tk : take (mid .waiting) (r₁ .hashes) ≡ fs .waiting = rw (n .2) (overlay-front (fs .waiting) (r₁ .hashes) (r .hashes) (mids .hashes)) in
-              let one : mid .made + 1 - mid .made - 1 ≡ 0 = omega arith in
-              let gg : groupsUpTo (mid .made) (mid .made + 1) (take (mid .waiting) (r₁ .hashes)) ≡ fs .waiting ∷ [] = groups-some (mid .made) (mid .made + 1) (take (mid .waiting) (r₁ .hashes)) (omega arith) ∙ rw (tk, one) in
-              let y : MadeFilters ch (fs .waiting ∷ []) (mid .filtered) (mid .made) (k .made) (r₁ .filters) f′ (r₁ .offsets) q′ = rw (mid-filter, gg) at (k .some (λ z. omega (arith, ap length e))) in
+              let wz : mid .waiting ≡ 0 → ⊥ = λ z. omega (arith, ap length e) in
+              let n₁ = one-made wz in
+              let one : f .made - mid .made - 1 ≡ 0 = omega arith in
+              let gg : groupsUpTo (mid .made) (f .made) (take (mid .waiting) (r₁ .hashes)) ≡ fs .waiting ∷ [] = groups-some (mid .made) (f .made) (take (mid .waiting) (r₁ .hashes)) (omega arith) ∙ rw (tk, one) in
+              let y : MadeFilters ch (fs .waiting ∷ []) (mid .filtered) (mid .made) (k .said) (r₁ .filters) f′ (r₁ .offsets) q′ = rw (filtering, gg) at (k .done (ap not (ne-eqb (mid .waiting) 0 wz))) in
               made-overlay ch (fs .made) (fs .waiting ∷ []) (r .filters) (r .offsets) y (n .0) (n .1) (mids .filters) (mids .offsets) (omega (arith, rooms .filters)) (omega (arith, rooms .offsets)) (omega (arith, rooms .limit))
 
       -- the table
-      module _ (f : FilterSizes) (ef : filterCountIn f ≡ lastFilters s) (out′ : List ℕ) (k₂ : EndPut mid f f′ q′ (r₁ .index) (r₁ .indexRestarts) (r₁ .out) out′) where
+      module _ (out′ : List ℕ) (k₂ : EndPut (s .options .interval) (choiceOf (s .options .filter)) (mid .written) (f .bytes) (f .made) (mid .indexed) f′ q′ (r₁ .index) (r₁ .indexRestarts) (r₁ .out) out′) where
         abbrev cs : List Build.Chunk
         cs = c .closed
 
@@ -212,24 +222,19 @@ module _ (o : Options) (more : List Addition) (b : Building) (s : Builder) (r : 
         unfolding filterCountIn filterCountOf
         f-made = ap (λ (x : FilterCount). x .made) sizes-are ∙ sym (starts-length ch 0 (lastFilter fs .made))
 
-        filter-is : filterBlock f f′ q′ ≡ filterBytes o cs
+        filter-is : filterBlock (f .bytes) (f .made) f′ q′ ≡ filterBytes o cs
         unfolding filterBlock filterBytes filterBlockBytes
         filter-is =
             let x : take (f .bytes) f′ ≡ madeBytes ch (lastFilter fs .made) = rw f-bytes (overlay-front (madeBytes ch (lastFilter fs .made)) f′ (r .filters) (last-runs .0)) in
             let y : take (f .made) q′ ≡ starts ch 0 (lastFilter fs .made) = rw f-made (overlay-front (starts ch 0 (lastFilter fs .made)) q′ (r .offsets) (last-runs .1)) in
             ap₂ filterBlockOf x y ∙ ap (λ (z : Filters). filterBlockOf (madeBytes ch (lastFilter z .made)) (starts ch 0 (lastFilter z .made))) (sym end-filters)
 
-        mid-interval : mid .options .interval ≡ o .interval
-        mid-interval = options-are mid o (last-counted .options) .0
+        interval : s .options .interval ≡ o .interval
+        interval = options-are s o (t .options) .0
 
-        meta-is : metaBlock mid (length (filterBlock f f′ q′)) ≡ metaBytes o cs
+        meta-is : metaBlock (s .options .interval) (choiceOf (s .options .filter)) (mid .written) (length (filterBlock (f .bytes) (f .made) f′ q′)) ≡ metaBytes o cs
         unfolding metaBlock metaBytes metaPair
-        meta-is = rw (filter-is, mid-interval, mid-filter, written-is last-counted)
-
-        least-most : (1 ≤ mid .options .interval) × (mid .options .interval ≤ 1024)
-        least-most =
-            let n = options-are s o (t .options) .0 in
-            (omega (arith, mid-interval, n, is-small .least), omega (arith, mid-interval, n, is-small .most))
+        meta-is = rw (filter-is, written-is last-counted, interval, filtering)
 
         abbrev whole : List ℕ → List ℕ → List ℕ
         whole fb mb =
@@ -239,15 +244,15 @@ module _ (o : Options) (more : List Addition) (b : Building) (s : Builder) (r : 
             let u = t ++ framed mb in
             u ++ framed ib ++ footerBytes (record { offset = length t; size = length mb }) (record { offset = length u; size = length ib })
 
-        whole-is : whole (filterBlock f f′ q′) (metaBlock mid (length (filterBlock f f′ q′))) ≡ Build.finish o b
+        whole-is : whole (filterBlock (f .bytes) (f .made) f′ q′) (metaBlock (s .options .interval) (choiceOf (s .options .filter)) (mid .written) (length (filterBlock (f .bytes) (f .made) f′ q′))) ≡ Build.finish o b
         unfolding Build.finish table untilFooter untilIndex untilMeta metaHandle indexHandle
         whole-is = ap₂ whole filter-is meta-is
 
         pub end-out : out′ ≡ overlay (Build.finish o b) (r .out)
         unfolding indexBytes
         end-out =
-            let l : length (whole (filterBlock f f′ q′) (metaBlock mid (length (filterBlock f f′ q′)))) ≤ length (r .out) = rw whole-is (omega (arith, fin-out, rooms .out)) in
-            k₂ .wrote (least-most .0) (least-most .1) (indexInterval o) (indexPairs o 0 cs) (index-stands last-counted (r .index) (r .indexRestarts) (mids .index) (mids .indexRestarts)) (written o cs) (r .out) (rw out-written at (mids .out))
+            let l : length (whole (filterBlock (f .bytes) (f .made) f′ q′) (metaBlock (s .options .interval) (choiceOf (s .options .filter)) (mid .written) (length (filterBlock (f .bytes) (f .made) f′ q′)))) ≤ length (r .out) = rw whole-is (omega (arith, fin-out, rooms .out)) in
+            k₂ .wrote (is-small .least) (is-small .most) (indexInterval o) (indexPairs o 0 cs) (index-stands last-counted (r .index) (r .indexRestarts) (mids .index) (mids .indexRestarts)) (written o cs) (r .out) (rw out-written at (mids .out))
             (sym (written-is last-counted)) l
             ∙ ap (λ (x : List ℕ). overlay x (r .out)) whole-is
 
@@ -276,8 +281,8 @@ module _ (o : Options) (more : List Addition) (b : Building) (s : Builder) (r : 
   end-runs f ef r′ g =
       let m = g .mid in
       let k = g .closed in
-      let lr = last-runs m k (r′ .filters) (r′ .offsets) (g .filters) in
-      fin-eq r′ (end-out m k (r′ .filters) (r′ .offsets) (g .filters) f ef (r′ .out) (g .out)) (g .index ∙ mids m k .index) (lr .0) (g .restarts) (g .indexRestarts ∙ mids m k .indexRestarts) (lr .1) (g .hashes)
+      let lr = last-runs m k f ef (r′ .filters) (r′ .offsets) (g .filters) in
+      fin-eq r′ (end-out m k f ef (r′ .filters) (r′ .offsets) (g .filters) (r′ .out) (g .out)) (g .index ∙ mids m k .index) (lr .0) (g .restarts) (g .indexRestarts ∙ mids m k .indexRestarts) (lr .1) (g .hashes)
 
   -- and its size
   pub end-size : finishedSize (optionsOf (s .options)) (countsIn s) ≡ length (Build.finish o b)
@@ -340,44 +345,41 @@ module _ (s : Builder) (r : Runs) {n : ℕ} (q : n ≡ earlyOf s (lengthsOf r) t
         five (inr x) = x
 
     module _ (k : p .answer ≡ 0) where
-      pub finish-ready : Small s × (EndFits (p .last) (p .sizes) (length (r .filters)) (length (r .offsets)) (length (r .index)) × (p .last .made < 2 ^ 63))
+      finish-fits : EndFits (p .last .written) (p .sizes .bytes) (p .sizes .made) (p .last .indexed) (length (r .filters)) (length (r .offsets)) (length (r .index))
       unfolding lengthsOf lastFilters
-      finish-ready =
+      finish-fits =
           let x = sane-is s (lengthsOf r) (finish-is-sane z) in
-          let m = g .small k in
-          let l = last-short s (x .len) in
           let w = g .within k in
           let ef = g .sizes k ∙ ap (λ (d : Builder). countLast (choiceOf (s .options .filter)) (filterCountIn (filtersIn d))) (sym (g .last k)) in
-          let v = Size.last-sizes s m l (p .last) (p .sizes) (g .last k) ef in (
-            m,
-            (
-              record { written = v .2; filterBytes = v .0; made = v .1; indexSize = v .3; inFilters = w .0; inOffsets = w .1 .0; inIndex = w .1 .1 },
-              omega (arith, Size.last-room s m l (p .last) (g .last k) .1),
-            ),
-          )
+          let v = Size.last-sizes s (g .small k) (last-short s (x .len)) (p .last) (p .sizes) (g .last k) ef in
+          record { written = v .2; filterBytes = v .0; filterCount = v .1; indexSize = v .3; inFilters = w .0; inOffsets = w .1 .0; inIndex = w .1 .1 }
 
       module _ {closing : Bool} (c : closing ≡ not (eqb (s .pending .restarts) 0)) {out₁ index₁ filters₁ indexRestarts₁ offsets₁ filters₂ offsets₂ out₂ : List ℕ}
-          (co : ClosedOut closing s (r .out) out₁ (r .restarts))
-          (ci : ClosedIndex closing s (take (p .last .indexed .len) (p .last .indexed .last)) (r .index) index₁ (r .indexRestarts) indexRestarts₁)
-          (cf : ClosedFilters closing s (r .filters) filters₁ (r .offsets) offsets₁ (r .hashes))
-          (lf : LastFilters (p .last) filters₁ filters₂ offsets₁ offsets₂ (r .hashes))
-          (ep : EndPut (p .last) (p .sizes) filters₂ offsets₂ index₁ indexRestarts₁ out₁ out₂) where
+          (co : ClosedOut closing (s .pending) (s .written) (r .out) out₁ (r .restarts))
+          (ci : ClosedIndex closing (s .pending) (s .written) (s .indexed) (take (p .last .indexed .len) (p .last .indexed .last)) (r .index) index₁ (r .indexRestarts) indexRestarts₁)
+          (cf : MoreFilters closing (choiceOf (s .options .filter)) (p .last .written / 2048) (s .waiting) (s .filtered) (s .made) (r .filters) filters₁ (r .offsets) offsets₁ (r .hashes))
+          (lf : MoreFilters (not (eqb (p .last .waiting) 0)) (choiceOf (s .options .filter)) (p .sizes .made) (p .last .waiting) (p .last .filtered) (p .last .made) filters₁ filters₂ offsets₁ offsets₂ (r .hashes))
+          (ew : EndWritten (s .options .interval) (choiceOf (s .options .filter)) (p .last .written) (p .sizes .bytes) (p .sizes .made) (p .last .indexed) filters₂ offsets₂ index₁ indexRestarts₁ out₁ out₂)
+          (lens : (length filters₂ ≡ length (r .filters)) × ((length offsets₂ ≡ length (r .offsets)) × (length index₁ ≡ length (r .index)))) where
         abbrev r′ : Runs
         r′ = seven out₂ index₁ filters₂ (r .restarts) indexRestarts₁ offsets₂ (r .hashes)
 
         ended : EndRuns s (lastState s) (p .sizes) r r′
         ended =
-            let d : ClosedRuns closing s (indexKey (p .last)) r (seven out₁ index₁ filters₁ (r .restarts) indexRestarts₁ offsets₁ (r .hashes)) =
-            unfold indexKey in record { out = co; index = ci; filters = cf; restarts = refl; hashes = refl } in
+            let d : (closing ≡ true → p .last .written ≡ endsAt s) → ClosedRuns closing s (indexKey (p .last)) r (seven out₁ index₁ filters₁ (r .restarts) indexRestarts₁ offsets₁ (r .hashes)) =
+            λ e. (unfold indexKey in record { out = co; index = ci; filters = more-until e cf; restarts = refl; hashes = refl }) in
+            let fits : EndFits (p .last .written) (p .sizes .bytes) (p .sizes .made) (p .last .indexed) (length filters₂) (length offsets₂) (length index₁) = rw (lens .0, lens .1 .0, lens .1 .1) finish-fits in
             record {
               mid = _;
               closed =
                   record {
-                    some = λ n. rw (g .last k, c ∙ ap not (ne-eqb (s .pending .restarts) 0 n)) at d;
-                    none = λ n. closed-kept d (c ∙ ap not (eq-eqb (s .pending .restarts) 0 n));
+                    some = λ n.
+                        let e = ap (λ (x : Builder). x .written) (g .last k ∙ sym (Size.last-some s n)) ∙ ends-closed s (lastOf s) in
+                        rw (g .last k, c ∙ ap not (ne-eqb (s .pending .restarts) 0 n)) at (d (λ u. e));
+                    none = λ n. let u = c ∙ ap not (eq-eqb (s .pending .restarts) 0 n) in closed-kept (d (λ v. absurd (false≢true (sym u ∙ v)))) u;
                   };
               filters = rw (g .last k) at lf;
-              out = rw (g .last k) at ep;
+              out = rw (g .last k) at (ew .done fits);
               index = refl;
               indexRestarts = refl;
               restarts = refl;

@@ -2,12 +2,10 @@ pub mod NumberLaws
 pub mod StartLaws
 pub mod SizeLaws
 pub mod DecideLaws
-pub mod WriteLaws
 pub mod GroupLaws
 pub mod CloseLaws
 pub mod EnterLaws
 pub mod TraceLaws
 pub mod AddLaws
-pub mod FinishLaws
 pub mod EndLaws
 pub mod LastLaws

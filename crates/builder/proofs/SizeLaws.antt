@@ -7,30 +7,27 @@ use native.Mathlib.Nat.{mul-le-mul-left}
 use native.Mathlib.Omega.{arith}
 use lib.Dec.{eqb, leb, ltb}
 use lib.ListN.{length}
-use borrow.Author.Tests.{le-leb, leb-true, eqb-false, eqb-true}
-use Rattle.codec.specs.Varint.{varintBytes, varintBytesF}
+use borrow.Author.Tests.{leb-true, eqb-true}
+use Rattle.codec.specs.Varint.{varintBytes}
 use Rattle.codec.proofs.Prelude.{test, split, both}
 use Rattle.codec.proofs.VarintLaws.{varint-bytes-length}
 use Rattle.block_builder.specs.declared.block_builder.BlockBuilder.{BlockBuilder}
 use Rattle.block_builder.specs.declared.block_builder.Counted.{Counted}
-use Rattle.blocks.specs.Block.{since, sharing}
-use Rattle.blocks.specs.Formed.{bloomName}
-use Rattle.blocks.specs.Count.{BlockCount, noEntries, varintSize, entrySize, countEntry, countSize}
-use Rattle.block_builder.specs.Builder.{countIn, newBuilder, builderWith, builderAfter, countableAfter, countable, CountedIs}
+use Rattle.blocks.specs.Block.{since}
+use Rattle.blocks.specs.Count.{noEntries, varintSize, countEntry, countSize}
+use Rattle.block_builder.specs.Builder.{countIn, newBuilder, builderWith, builderAfter, countable, CountedIs}
 use Rattle.block_builder.specs.Plan.{sizeWith}
 use Rattle.block_builder.proofs.BuilderLaws.{counting-none, counts-with}
-use Rattle.block_builder.proofs.BuilderCode.{fits-all}
 use Rattle.blocks.proofs.CountLaws.{count-none, entry-restarts}
-use Rattle.bloom.specs.declared.filter.Filter as FilterEnum
 use Rattle.filters.specs.Filter.{filterSize}
 use Rattle.filters.specs.FilterBlock.{Filtering, unfiltered, bitsPerKey}
 use Rattle.filters.specs.FilterCount.{FilterCount, filterBytesOf, countMade, countUpTo, countLast, filterBlockSize}
 use Rattle.filters.proofs.FilterCountLaws.{made-over, made-enough, none-waits, some-wait}
 use Rattle.bloom.specs.Choice.{choiceOf}
 use Rattle.table.specs.Options.{Options, indexInterval, optionsFit, filteringFits, tableLimit}
-use Rattle.table.specs.Build.{metaName}
-use Rattle.table.specs.Counts.{handleSize, countClose, countCloseLast, metaSize, endSize, finishedSize}
+use Rattle.table.specs.Counts.{handleSize, countClose, countCloseLast, endSize, finishedSize}
 use Rattle.table.proofs.AcceptLaws.{within-parts, option-parts}
+use Rattle.table_write.proofs.EntryLaws.{entry-bytes, countable-small}
 use Rattle.builder.specs.declared.table_builder.Builder.{Builder}
 use Rattle.builder.specs.declared.table_builder.FilterSizes.{FilterSizes}
 use Rattle.builder.specs.declared.table_builder.Close.{Close}
@@ -40,26 +37,7 @@ use Rattle.builder.specs.Steps.{small, Small, filterCountIn, filterSizes
 
 -- ---- one entry more
 
-pub since-most : (i n : ℕ) → 1 ≤ i → n ≤ i → since i n ≤ i
-unfolding since
-since-most i n h k = test (eqb n i) (λ t. rw (t, since) h) (λ t. let ne = eqb-false n i t in rw (t, since) (split n i (λ l. l) (λ g. absurd (ne (omega arith)))))
-
-entry-bytes : (i : ℕ) (b : BlockCount) (key : List ℕ) (v : ℕ) → countEntry i b key v .bytes ≤ b .bytes + v + length key + 30
-unfolding countEntry entrySize
-entry-bytes i b key v =
-    let s = sharing i (b .since) (b .last) key in
-    omega (arith, varint-bytes-length s, varint-bytes-length (length key - s), varint-bytes-length v)
-
--- it can be counted
-pub countable-small : (b : BlockBuilder) (key : List ℕ) (v : ℕ) → length key ≤ 1032 → v ≤ 2 ^ 40 → b .bytes ≤ 2 ^ 40 → b .restarts ≤ 2 ^ 40 → b .since ≤ b .interval → 1 ≤ b .interval
-    → b .interval ≤ 1024 → countable b key v ≡ true
-unfolding countableAfter countIn
-countable-small b key v k h x y s l m =
-    let e = countEntry (b .interval) (countIn b) key v in
-    let z : e .since ≤ b .interval = unfold countEntry in since-most (b .interval) (b .since) l s in
-    rw (le-leb (length key) 1032 k) (fits-all e (omega (arith, entry-bytes (b .interval) (countIn b) key v)) (omega (arith, entry-restarts (b .interval) (countIn b) key v .1)) (omega arith))
-
--- and then it is
+-- an entry that can be counted is
 pub counted-is : {b : BlockBuilder} {key : List ℕ} {v : ℕ} {r : Counted} → CountedIs b key v r → countable b key v ≡ true → r .block ≡ builderAfter b key v
 counted-is h e = h .block ∙ rw e
 
@@ -357,26 +335,6 @@ module _ (s : Builder) (h : Small s) where
       pub sizes-finished : Whole s → endSize (choiceOf (s .options .filter)) (z .written) (f .bytes + 4 * f .made + 5) (z .index) ≡ finishedSize (optionsOf (s .options)) (countsIn s)
       unfolding sizesIn
       sizes-finished w = rw e (finished-is s h w k (lastState s) f refl (rw e at ef) refl)
-
--- the name and the metaindex's size
-pub meta-is : (c : Filtering) (offset size a b n x y : ℕ) → a ≡ varintSize offset → b ≡ varintSize size → n ≡ length (metaName c) → x ≡ varintSize n → y ≡ varintSize (a + b)
-    → 1 + x + y + n + (a + b) + 8 ≡ metaSize c offset size
-unfolding metaSize entrySize handleSize
-meta-is c offset size a b n x y ea eb en ex ey =
-    let u : varintSize 0 ≡ 1 = unfold varintBytes varintBytesF in refl in
-    let v : x ≡ varintSize (length (metaName c)) = ex ∙ ap (λ (m : ℕ). length (varintBytes m)) en in
-    let w : y ≡ varintSize (varintSize offset + varintSize size) = ey ∙ ap (λ (m : ℕ). length (varintBytes m)) (ap₂ _+_ ea eb) in
-    let z : length (metaName c) - 0 ≡ length (metaName c) = omega arith in
-    let t : varintSize (length (metaName c) - 0) ≡ varintSize (length (metaName c)) = ap (λ (m : ℕ). length (varintBytes m)) z in
-    omega (arith, ea, eb, en, u, v, w, t)
-
-pub name-most : (c : Filtering) → length (metaName c) ≤ 35
-unfolding metaName bloomName
-name-most unfiltered = omega arith
-name-most (bitsPerKey b) = omega arith
-
-pub name-is : {f g : FilterEnum.Filter} → f ≡ g → metaName (choiceOf g) ≡ metaName (choiceOf f)
-name-is e = ap (λ (x : FilterEnum.Filter). metaName (choiceOf x)) (sym e)
 
 -- ---- what the tests say
 

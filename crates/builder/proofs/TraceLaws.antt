@@ -26,7 +26,8 @@ use Rattle.builder.specs.declared.table_builder.Lengths.{Lengths}
 use Rattle.builder.specs.declared.table_builder.Builder.{Builder}
 use Rattle.builder.specs.State.{optionsOf, countsIn, lengthsOf, sameLengths, sizesFit, sane, Stands}
 use Rattle.builder.specs.Steps.{small, Small, Whole, Roomy, lastOf, closedState, enteredState, aboveLast, cutOf, sepOf, midOf, nextOf, fitsOf, decideOf}
-use Rattle.builder.proofs.SizeLaws.{since-most, small-is}
+use Rattle.table_write.proofs.EntryLaws.{since-most}
+use Rattle.builder.proofs.SizeLaws.{small-is}
 use Rattle.builder.proofs.DecideLaws.{sep-most, last-short, mid-is, mid-roomy, above-none, above-some}
 use Rattle.table.proofs.OverlayLaws.{overlay-front, overlay-of, overlay-long, each, all-seven}
 use Rattle.builder.proofs.CloseLaws.{Counted, lens, counting, index-counting, open-size, options-are, closed-counted}

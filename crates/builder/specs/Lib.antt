@@ -1,4 +1,3 @@
 pub mod State
 pub mod Steps
-pub mod Writes
 pub mod Answers

@@ -2,35 +2,30 @@
 // options, the runs' lengths and counts. Everything is decided from these before anything is written.
 ghost use mathlib.Core.Path.{_≡_};
 ghost use mathlib.Core.Bool.{true, _&&_};
-ghost use mathlib.Core.List.{[], _∷_};
 ghost use Prim.Native.Nat.{_+_, _*_, _^_, _≤_, _<_};
 ghost use lib.Dec.{leb};
 ghost use lib.ListN.{length, take};
-ghost use Rattle.codec.specs.Put.{put};
-ghost use Rattle.codec.specs.Varint.{handleBytes};
-ghost use Rattle.blocks.specs.Block.{blockBytes};
-ghost use Rattle.blocks.specs.Count.{countSize};
-ghost use Rattle.block_builder.specs.Builder as Blocks;
-ghost use Rattle.block_builder.specs.Builder.{countIn};
 ghost use Rattle.bloom.specs.Choice.{choiceOf};
-ghost use Rattle.filters.specs.FilterBlock.{filterBlockOf};
-ghost use Rattle.filter_block.specs.Make.{groupsUpTo, MadeFilters};
 ghost use Rattle.filters.specs.FilterCount.{filterBytesOf, countMade, countLast};
 ghost use Rattle.keys.specs.Order.{below, separator, internal};
 ghost use Rattle.table.specs.Options.{optionsFit, filteringFits, emptySize, additionFits};
-ghost use Rattle.table.specs.Build.{metaName, footerBytes};
 ghost use Rattle.table.specs.Runs.{roomOf};
-ghost use Rattle.table.specs.Counts.{metaSize, endSize, finishedSize};
+ghost use Rattle.table.specs.Counts.{endSize, finishedSize};
 ghost use Rattle.builder.specs.State.{optionsOf, countsIn, seven, runsFit, sameLengths, sizesFit, sane, begun, noBuilder};
 ghost use Rattle.builder.specs.Answers.{StartedIs, AddedIs, FinishedIs};
 ghost use Rattle.builder.specs.Steps.{small, Small, filterCountIn, filtersIn, closeIn, closedState, Roomy, enteredState, lastState, sizesIn, Whole, cutOf, midOf, aboveLast, fitsOf, earlyOf, Ready, DecidedIs, EndingIs};
-ghost use Rattle.builder.specs.Writes.{sealedOut, ClosedOut, ClosedIndex, ClosedFilters, EnteredRuns, LastFilters, Framed, IndexPut, EndFits, EndPut};
 use block_builder::block_builder::BlockBuilder;
 use bloom::filter::Filter;
 use codec::put::Written;
 use codec::varint::varint_len;
 use filter_block::filter_block::Made;
 use table_block::footer::TABLE_LIMIT;
+use table_write::table_write::close_index;
+use table_write::table_write::close_out;
+use table_write::table_write::meta_size;
+use table_write::table_write::more_filters;
+use table_write::table_write::write_end;
+use table_write::table_write::write_entry;
 
 // Restart interval, block size and filter choice.
 pub struct Options {
@@ -455,25 +450,6 @@ fn closed_last(s: Builder) -> Builder
     closed_under(s, &pending.last, pending.len)
 }
 
-// How many bytes the metaindex entry's name has.
-fn name_len(f: Filter) -> usize
-    ensures { λ r. ⌜ r ≡ length (metaName (choiceOf f)) ⌝ }
-{
-    match f {
-        Filter::None => 8,
-        Filter::Bits(_) => 34,
-    }
-}
-
-// The metaindex block's bytes.
-fn meta_size(f: Filter, offset: usize, size: usize) -> usize
-    ensures { λ r. ⌜ (r ≡ metaSize (choiceOf f) offset size) × (r < 200) ⌝ }
-{
-    let handle = varint_len(offset) + varint_len(size);
-    let n = name_len(f);
-    1 + varint_len(n) + varint_len(handle) + n + handle + 8
-}
-
 // The bytes of data blocks, and then of filter block, metaindex, an index block of so many bytes, and footer.
 fn end_size(filter: Filter, written: usize, f: FilterSizes, index: usize) -> usize
     requires { ⌜ (written ≤ 2 ^ 40) × (f .bytes ≤ 2 ^ 40) × (f .made ≤ 2 ^ 40) × (index ≤ 2 ^ 40) ⌝ }
@@ -691,135 +667,6 @@ fn decide(s: Builder, l: Lengths, key: &[u8], value_len: usize) -> Plan
     }
 }
 
-// Writes the restarts and the trailer of the open block, whose entries stand at a place of out.
-fn seal_block(out: &mut [u8], at: usize, pending: BlockBuilder, restarts: &[u32], size: usize)
-    requires { ⌜ size ≡ countSize (countIn pending) ⌝ }
-    ensures { λ _. ⌜ now (out .exit) ≡ sealedOut (now (out .entry)) at pending (now (restarts .entry)) ⌝ }
-{
-    pending.finish(out, at, restarts);
-    checksum::trailer::put_trailer(out, at, size);
-}
-
-// Adds an entry to the index: a key, and the handle of a block.
-fn index_block(
-    indexed: BlockBuilder,
-    index: &mut [u8],
-    restarts: &mut [u32],
-    key: &[u8],
-    offset: usize,
-    size: usize,
-) -> block_builder::block_builder::Added
-    ensures { λ r. ⌜ Blocks.AddedIs indexed 0 (now (index .entry)) (now (index .exit)) (now (restarts .entry)) (now (restarts .exit)) (now (key .entry)) (handleBytes (record { offset = offset; size = size })) r ⌝ }
-{
-    let mut handle = [0u8; 20];
-    match codec::blockhandle::encode_to(&mut handle, 0, offset, size) {
-        Written::NoRoom => indexed.add(index, 0, restarts, key, b""),
-        Written::At(n) => indexed.add(index, 0, restarts, key, &handle[..n]),
-    }
-}
-
-// Makes filters of the first waiting hashes until there are n.
-fn filter_blocks(
-    choice: Filter,
-    hashes: &[u32],
-    waiting: usize,
-    n: usize,
-    filters: &mut [u8],
-    bytes: usize,
-    offsets: &mut [u32],
-    made: usize,
-) -> Made
-    ensures { λ r. ⌜ MadeFilters (choiceOf choice) (groupsUpTo made n (take waiting (now (hashes .entry)))) bytes made r (now (filters .entry)) (now (filters .exit)) (now (offsets .entry)) (now (offsets .exit)) ⌝ }
-{
-    let k = codec::limits::least(waiting, hashes.len());
-    filter_block::filter_block::make_filters(choice, &hashes[..k], n, filters, bytes, offsets, made)
-}
-
-// Of an open block that is closed: its restarts and its trailer.
-fn close_out(closing: bool, s: Builder, out: &mut [u8], restarts: &[u32])
-    requires { ⌜ Small s ⌝ }
-    ensures { λ _. ⌜ ClosedOut closing s (now (out .entry)) (now (out .exit)) (now (restarts .entry)) ⌝ }
-{
-    if !closing {
-        return;
-    }
-    let pending = s.pending;
-    let size = pending.size_estimate();
-    seal_block(out, s.written, pending, restarts, size);
-}
-
-// Of an open block that is closed: its index entry, under the first len bytes of last.
-fn close_index(
-    closing: bool,
-    s: Builder,
-    last: &[u8],
-    len: usize,
-    index: &mut [u8],
-    restarts: &mut [u32],
-)
-    requires { ⌜ Small s ⌝ }
-    ensures { λ _. ⌜ ClosedIndex closing s (take len (now (last .entry))) (now (index .entry)) (now (index .exit)) (now (restarts .entry)) (now (restarts .exit)) ⌝ }
-{
-    if !closing {
-        return;
-    }
-    let pending = s.pending;
-    let size = pending.size_estimate();
-    let indexed = s.indexed;
-    let n = codec::limits::least(len, last.len());
-    index_block(indexed, index, restarts, &last[..n], s.written, size);
-}
-
-// Of an open block that is closed: the filters up to where it ends.
-fn close_filters(closing: bool, s: Builder, filters: &mut [u8], offsets: &mut [u32], hashes: &[u32])
-    requires { ⌜ Small s ⌝ }
-    ensures { λ _. ⌜ ClosedFilters closing s (now (filters .entry)) (now (filters .exit)) (now (offsets .entry)) (now (offsets .exit)) (now (hashes .entry)) ⌝ }
-{
-    if !closing {
-        return;
-    }
-    let c = close_of(s);
-    let options = s.options;
-    let filter = options.filter;
-    filter_blocks(
-        filter,
-        hashes,
-        s.waiting,
-        c.end / 2048,
-        filters,
-        s.filtered,
-        offsets,
-        s.made,
-    );
-}
-
-// Puts a hash behind those that wait.
-fn push_hash(hashes: &mut [u32], n: usize, x: u32)
-    ensures { λ _. ⌜ now (hashes .exit) ≡ put (now (hashes .entry)) n (x ∷ []) ⌝ }
-{
-    if n < hashes.len() {
-        hashes[n] = x;
-    }
-}
-
-// Writes an entry into a block that starts at a place of out, and its word's hash behind those that wait.
-fn write_entry(
-    pending: BlockBuilder,
-    at: usize,
-    waiting: usize,
-    key: &[u8],
-    word: &[u8],
-    value: &[u8],
-    out: &mut [u8],
-    restarts: &mut [u32],
-    hashes: &mut [u32],
-)
-    ensures { λ _. ⌜ EnteredRuns pending at waiting (now (key .entry)) (now (word .entry)) (now (value .entry)) (now (out .entry)) (now (out .exit)) (now (restarts .entry)) (now (restarts .exit)) (now (hashes .entry)) (now (hashes .exit)) ⌝ }
-{
-    pending.add(out, at, restarts, key, value);
-    push_hash(hashes, waiting, bloom::filter::bloom_hash(word));
-}
-
 // The internal key of an addition goes to the front of key; how many bytes it has.
 fn put_key(key: &mut [u8], word: &[u8], edition: u64, kind: u8) -> usize
     requires { ⌜ (length (now key) ≡ 1032) × (length (now word) ≤ 1024) ⌝ }
@@ -829,153 +676,6 @@ fn put_key(key: &mut [u8], word: &[u8], edition: u64, kind: u8) -> usize
         Written::NoRoom => 0,
         Written::At(n) => n,
     }
-}
-
-// One filter more if hashes still wait.
-fn filter_last(s: Builder, filters: &mut [u8], offsets: &mut [u32], hashes: &[u32])
-    requires { ⌜ s .made < 2 ^ 63 ⌝ }
-    ensures { λ _. ⌜ LastFilters s (now (filters .entry)) (now (filters .exit)) (now (offsets .entry)) (now (offsets .exit)) (now (hashes .entry)) ⌝ }
-{
-    if s.waiting == 0 {
-        return;
-    }
-    let options = s.options;
-    let filter = options.filter;
-    filter_blocks(
-        filter,
-        hashes,
-        s.waiting,
-        s.made + 1,
-        filters,
-        s.filtered,
-        offsets,
-        s.made,
-    );
-}
-
-// Writes the filter block and its trailer at a place of out.
-fn put_filter(
-    out: &mut [u8],
-    at: usize,
-    filters: &[u8],
-    bytes: usize,
-    offsets: &[u32],
-    made: usize,
-    size: usize,
-)
-    requires { ⌜ (bytes ≤ length (now filters)) × (made ≤ length (now offsets)) ⌝ }
-    ensures { λ _. ⌜ (size ≡ length (filterBlockOf (take bytes (now (filters .entry))) (take made (now (offsets .entry)))) → Framed (now (out .entry)) at (filterBlockOf (take bytes (now (filters .entry))) (take made (now (offsets .entry)))) (now (out .exit))) ⌝ }
-{
-    filter_block::filter_block::finish(out, at, &filters[..bytes], &offsets[..made]);
-    checksum::trailer::put_trailer(out, at, size);
-}
-
-// Writes a block of one entry and its trailer at a place of out.
-fn put_one(out: &mut [u8], at: usize, interval: usize, name: &[u8], value: &[u8], size: usize)
-    ensures { λ _. ⌜ (1 ≤ interval → interval ≤ 1024 → length (now (name .entry)) ≤ 1032 → length (now (value .entry)) ≤ 32768 → size ≡ length (blockBytes interval (record { key = now (name .entry); value = now (value .entry) } ∷ [])) → Framed (now (out .entry)) at (blockBytes interval (record { key = now (name .entry); value = now (value .entry) } ∷ [])) (now (out .exit))) ⌝ }
-{
-    let mut restarts = [0u32; 1];
-    let block = BlockBuilder::new(interval);
-    let added = block.add(out, at, &mut restarts, name, value);
-    let one = added.block;
-    one.finish(out, at, &restarts);
-    checksum::trailer::put_trailer(out, at, size);
-}
-
-// Writes the metaindex and its trailer at a place of out.
-fn put_meta(
-    out: &mut [u8],
-    at: usize,
-    interval: usize,
-    filter: Filter,
-    offset: usize,
-    size: usize,
-    len: usize,
-)
-    ensures { λ _. ⌜ (1 ≤ interval → interval ≤ 1024 → len ≡ length (blockBytes interval (record { key = metaName (choiceOf filter); value = handleBytes (record { offset = offset; size = size }) } ∷ [])) → Framed (now (out .entry)) at (blockBytes interval (record { key = metaName (choiceOf filter); value = handleBytes (record { offset = offset; size = size }) } ∷ [])) (now (out .exit))) ⌝ }
-{
-    let mut handle = [0u8; 20];
-    match codec::blockhandle::encode_to(&mut handle, 0, offset, size) {
-        Written::NoRoom => {}
-        Written::At(n) => match filter {
-            Filter::None => put_one(out, at, interval, b"filter._", &handle[..n], len),
-            Filter::Bits(_) => put_one(
-                out,
-                at,
-                interval,
-                b"filter.leveldb.BuiltinBloomFilter2",
-                &handle[..n],
-                len,
-            ),
-        },
-    }
-}
-
-// Writes the index block and its trailer at a place of out.
-fn put_index(
-    out: &mut [u8],
-    at: usize,
-    indexed: BlockBuilder,
-    index: &[u8],
-    restarts: &[u32],
-    size: usize,
-)
-    requires { ⌜ (size ≡ countSize (countIn indexed)) × (indexed .bytes ≤ length (now index)) ⌝ }
-    ensures { λ _. ⌜ IndexPut indexed (now (index .entry)) (now (restarts .entry)) at (now (out .entry)) (now (out .exit)) ⌝ }
-{
-    let n = indexed.bytes;
-    codec::put::put_bytes(out, at, &index[..n]);
-    seal_block(out, at, indexed, restarts, size);
-}
-
-// The footer: both handles, zeros up to 40 bytes, and the magic.
-fn put_footer(
-    out: &mut [u8],
-    at: usize,
-    meta_offset: usize,
-    meta_size: usize,
-    index_offset: usize,
-    index_size: usize,
-)
-    ensures { λ _. ⌜ now (out .exit) ≡ put (now (out .entry)) at (footerBytes (record { offset = «meta_offset»; size = «meta_size» }) (record { offset = «index_offset»; size = «index_size» })) ⌝ }
-{
-    let mut foot = [0u8; 48];
-    match codec::blockhandle::encode_to(&mut foot, 0, meta_offset, meta_size) {
-        Written::NoRoom => {}
-        Written::At(n) => {
-            codec::blockhandle::encode_to(&mut foot, n, index_offset, index_size);
-            codec::put::put_bytes(&mut foot, 40, b"\x57\xfb\x80\x8b\x24\x75\x47\xdb");
-            codec::put::put_bytes(out, at, &foot);
-        }
-    }
-}
-
-// Writes filter block, metaindex, index and footer at a place of out, the end of the data blocks.
-fn write_end(
-    out: &mut [u8],
-    s: Builder,
-    f: FilterSizes,
-    filters: &[u8],
-    offsets: &[u32],
-    index: &[u8],
-    restarts: &[u32],
-)
-    requires { ⌜ EndFits s f (length (now filters)) (length (now offsets)) (length (now index)) ⌝ }
-    ensures { λ _. ⌜ EndPut s f (now (filters .entry)) (now (offsets .entry)) (now (index .entry)) (now (restarts .entry)) (now (out .entry)) (now (out .exit)) ⌝ }
-{
-    let options = s.options;
-    let filter = options.filter;
-    let at = s.written;
-    let block = f.bytes + 4 * f.made + 5;
-    put_filter(out, at, filters, f.bytes, offsets, f.made, block);
-    let meta_at = at + block + 5;
-    let meta = meta_size(filter, at, block);
-    put_meta(out, meta_at, options.interval, filter, at, block, meta);
-    let index_at = meta_at + meta + 5;
-    let indexed = s.indexed;
-    let size = indexed.size_estimate();
-    put_index(out, index_at, indexed, index, restarts, size);
-    put_footer(out, index_at + size + 5, meta_at, meta, index_at, size);
 }
 
 // What is decided of a finish: 0 or the refusal's number, the table's size, the state with the last block closed, and the
@@ -1076,9 +776,32 @@ impl Builder {
         let cut = p.cut;
         let next = p.next;
         let last = next.indexed;
-        close_out(cut, self, out, restarts);
-        close_index(cut, self, &last.last, last.len, index, index_restarts);
-        close_filters(cut, self, filters, offsets, hashes);
+        let open = self.pending;
+        let indexed = self.indexed;
+        let options = self.options;
+        let filter = options.filter;
+        close_out(cut, open, self.written, out, restarts);
+        close_index(
+            cut,
+            open,
+            self.written,
+            indexed,
+            &last.last,
+            last.len,
+            index,
+            index_restarts,
+        );
+        more_filters(
+            cut,
+            filter,
+            hashes,
+            self.waiting,
+            next.written / 2048,
+            filters,
+            self.filtered,
+            offsets,
+            self.made,
+        );
         let pending = p.pending;
         write_entry(
             pending,
@@ -1136,14 +859,58 @@ impl Builder {
         }
         let last = p.last;
         let sizes = p.sizes;
-        let pending = self.pending;
-        let closing = pending.restarts != 0;
+        let open = self.pending;
+        let closing = open.restarts != 0;
+        let indexed = self.indexed;
         let under = last.indexed;
-        close_out(closing, self, out, restarts);
-        close_index(closing, self, &under.last, under.len, index, index_restarts);
-        close_filters(closing, self, filters, offsets, hashes);
-        filter_last(last, filters, offsets, hashes);
-        write_end(out, last, sizes, filters, offsets, index, index_restarts);
+        let options = self.options;
+        let filter = options.filter;
+        close_out(closing, open, self.written, out, restarts);
+        close_index(
+            closing,
+            open,
+            self.written,
+            indexed,
+            &under.last,
+            under.len,
+            index,
+            index_restarts,
+        );
+        more_filters(
+            closing,
+            filter,
+            hashes,
+            self.waiting,
+            last.written / 2048,
+            filters,
+            self.filtered,
+            offsets,
+            self.made,
+        );
+        more_filters(
+            last.waiting != 0,
+            filter,
+            hashes,
+            last.waiting,
+            sizes.made,
+            filters,
+            last.filtered,
+            offsets,
+            last.made,
+        );
+        write_end(
+            out,
+            last.written,
+            options.interval,
+            filter,
+            filters,
+            sizes.bytes,
+            offsets,
+            sizes.made,
+            under,
+            index,
+            index_restarts,
+        );
         let mut over = self;
         over.finished = true;
         Finished {

@@ -4,7 +4,7 @@ use native.Mathlib.Omega.{arith}
 use Rattle.table.specs.Runs.{Runs}
 use Rattle.builder.specs.State.{seven, lengthsOf}
 use Rattle.builder.specs.Answers.{overState}
-use Rattle.builder.proofs.LastLaws.{finish-refused, finish-is-sane, finish-full, finish-ready, finish-done}
+use Rattle.builder.proofs.LastLaws.{finish-refused, finish-is-sane, finish-full, finish-done}
 use borrow.Author.Needs.{needs}
 use Rattle.builder.proofs.table_builder.Builder.finish.Statement.{statement}
 use Rattle.builder.proofs.table_builder.Builder.finish.Tie as tie
@@ -28,60 +28,44 @@ unfolding lengthsOf
 returns-2 c = let a = c .before .before .before .before .before .before .before .before .before .before .before in finish-full (a .args .self) (runs a) (c .before .before .before .early .ensures) (c .before .before .if1 .left) (c .before .decide-end .ensures) (c .if2 .taken)
 
 close-out-requires : tie.Need-close-out-requires
-unfolding lengthsOf
-close-out-requires c κs = let a = c .before .before .before .before .before .before .before .before .before .before .before .before .before .before .before .before .before .before in finish-ready (a .args .self) (runs a) (c .before .before .before .before .before .before .before .before .before .before .early .ensures) (c .before .before .before .before .before .before .before .before .before .if1 .left) (c .before .before .before .before .before .before .before .before .decide-end .ensures) (c .before .before .before .before .before .before .before .if2 .left) .0
+close-out-requires c κs = search needs
 
 close-index-requires : tie.Need-close-index-requires
-unfolding lengthsOf
-close-index-requires c κs = let a = c .before .before .before .before .before .before .before .before .before .before .before .before .before .before .before .before .before .before .before .before .before .before .before .before .before .before in finish-ready (a .args .self) (runs a) (c .before .before .before .before .before .before .before .before .before .before .before .before .before .before .before .before .before .before .early .ensures) (c .before .before .before .before .before .before .before .before .before .before .before .before .before .before .before .before .before .if1 .left) (c .before .before .before .before .before .before .before .before .before .before .before .before .before .before .before .before .decide-end .ensures) (c .before .before .before .before .before .before .before .before .before .before .before .before .before .before .before .if2 .left) .0
+close-index-requires c κs = search needs
 
-close-filters-requires : tie.Need-close-filters-requires
-unfolding lengthsOf
-close-filters-requires c κs = let a = c .before .before .before .before .before .before .before .before .before .before .before .before .before .before .before .before .before .before .before .before .before .before .before .before .before .before .before .before .before .before .before .before .before .before in finish-ready (a .args .self) (runs a) (c .before .before .before .before .before .before .before .before .before .before .before .before .before .before .before .before .before .before .before .before .before .before .before .before .before .before .early .ensures) (c .before .before .before .before .before .before .before .before .before .before .before .before .before .before .before .before .before .before .before .before .before .before .before .before .before .if1 .left) (c .before .before .before .before .before .before .before .before .before .before .before .before .before .before .before .before .before .before .before .before .before .before .before .before .decide-end .ensures) (c .before .before .before .before .before .before .before .before .before .before .before .before .before .before .before .before .before .before .before .before .before .before .before .if2 .left) .0
+more-filters-requires : tie.Need-more-filters-requires
+more-filters-requires c κs = search needs
 
-filter-last-requires : tie.Need-filter-last-requires
-unfolding lengthsOf
-filter-last-requires c κs = let a = c .before .before .before .before .before .before .before .before .before .before .before .before .before .before .before .before .before .before .before .before .before .before .before .before .before .before .before .before .before .before .before .before .before .before .before .before .before .before .before .before .before .before in finish-ready (a .args .self) (runs a) (c .before .before .before .before .before .before .before .before .before .before .before .before .before .before .before .before .before .before .before .before .before .before .before .before .before .before .before .before .before .before .before .before .before .before .early .ensures) (c .before .before .before .before .before .before .before .before .before .before .before .before .before .before .before .before .before .before .before .before .before .before .before .before .before .before .before .before .before .before .before .before .before .if1 .left) (c .before .before .before .before .before .before .before .before .before .before .before .before .before .before .before .before .before .before .before .before .before .before .before .before .before .before .before .before .before .before .before .before .decide-end .ensures) (c .before .before .before .before .before .before .before .before .before .before .before .before .before .before .before .before .before .before .before .before .before .before .before .before .before .before .before .before .before .before .before .if2 .left) .1 .1
+more-filters-requires-2 : tie.Need-more-filters-requires-2
+more-filters-requires-2 c κs = search needs
 
 write-end-requires : tie.Need-write-end-requires
-unfolding lengthsOf
-write-end-requires c κs =
-    let a = c .before .before .before .before .before .before .before .before .before .before .before .before .before .before .before .before .before .before .before .before .before .before .before .before .before .before .before .before .before .before .before .before .before .before .before .before .before .before .before .before .before .before .before .before .before .before .before .before .before .before .before .before in
-    let p = finish-ready (a .args .self) (runs a) (c .before .before .before .before .before .before .before .before .before .before .before .before .before .before .before .before .before .before .before .before .before .before .before .before .before .before .before .before .before .before .before .before .before .before .before .before .before .before .before .before .before .before .before .before .early .ensures) (c .before .before .before .before .before .before .before .before .before .before .before .before .before .before .before .before .before .before .before .before .before .before .before .before .before .before .before .before .before .before .before .before .before .before .before .before .before .before .before .before .before .before .before .if1 .left) (c .before .before .before .before .before .before .before .before .before .before .before .before .before .before .before .before .before .before .before .before .before .before .before .before .before .before .before .before .before .before .before .before .before .before .before .before .before .before .before .before .before .before .decide-end .ensures) (c .before .before .before .before .before .before .before .before .before .before .before .before .before .before .before .before .before .before .before .before .before .before .before .before .before .before .before .before .before .before .before .before .before .before .before .before .before .before .before .before .before .if2 .left) .1 .0 in
-    record {
-      written = p .written;
-      filterBytes = p .filterBytes;
-      made = p .made;
-      indexSize = p .indexSize;
-      inFilters = omega (arith, p .inFilters, c .before .before .before .before .before .before .before .before .filters2 .given, c .before .before .before .before .before .before .before .before .before .before .before .before .before .before .before .before .filters .given);
-      inOffsets = omega (arith, p .inOffsets, c .before .before .before .before .before .before .offsets2 .given, c .before .before .before .before .before .before .before .before .before .before .before .before .before .before .offsets .given);
-      inIndex = omega (arith, p .inIndex, c .before .before .before .before .before .before .before .before .before .before .before .before .before .before .before .before .before .before .before .before .before .before .before .before .index .given);
-    }
+write-end-requires c κs = search needs
 
 same-length : tie.Need-same-length
-same-length c = search (needs, c .before .out2 .given, c .before .before .before .before .before .before .before .before .before .before .before .before .before .before .before .before .before .before .before .before .before .before .before .before .before .before .before .before .before .before .before .before .before .before .before .out .given)
+same-length c = search (needs, c .before .out2 .given, c .before .before .before .before .before .before .before .before .before .before .before .before .before .before .before .before .before .before .before .before .before .before .before .before .before .before .before .before .before .before .before .before .before .before .before .before .before .out .given)
 
 same-length-2 : tie.Need-same-length-2
-same-length-2 c = search (needs, c .before .before .before .before .before .before .before .before .before .before .before .before .before .before .before .before .before .before .before .before .before .before .before .before .before .before .before .index .given)
+same-length-2 c = search (needs, c .before .before .before .before .before .before .before .before .before .before .before .before .before .before .before .before .before .before .before .before .before .before .before .before .before .before .before .before .before .index .given)
 
 same-length-3 : tie.Need-same-length-3
-same-length-3 c = search (needs, c .before .before .before .before .before .before .before .before .before .before .before .filters2 .given, c .before .before .before .before .before .before .before .before .before .before .before .before .before .before .before .before .before .before .before .filters .given)
+same-length-3 c = search (needs, c .before .before .before .before .before .before .before .before .before .before .before .filters2 .given, c .before .before .before .before .before .before .before .before .before .before .before .before .before .before .before .before .before .before .before .before .filters .given)
 
 same-length-4 : tie.Need-same-length-4
 same-length-4 c = search needs
 
 same-length-5 : tie.Need-same-length-5
-same-length-5 c = search (needs, c .before .before .before .before .before .before .before .before .before .before .before .before .before .before .before .before .before .before .before .before .before .before .before .before .before .index-restarts .given)
+same-length-5 c = search (needs, c .before .before .before .before .before .before .before .before .before .before .before .before .before .before .before .before .before .before .before .before .before .before .before .before .before .before .before .index-restarts .given)
 
 same-length-6 : tie.Need-same-length-6
-same-length-6 c = search (needs, c .before .before .before .before .before .before .before .before .before .offsets2 .given, c .before .before .before .before .before .before .before .before .before .before .before .before .before .before .before .before .before .offsets .given)
+same-length-6 c = search (needs, c .before .before .before .before .before .before .before .before .before .offsets2 .given, c .before .before .before .before .before .before .before .before .before .before .before .before .before .before .before .before .before .before .offsets .given)
 
 same-length-7 : tie.Need-same-length-7
 same-length-7 c = search needs
 
 returns-3 : tie.Need-returns-3
 unfolding lengthsOf overState
-returns-3 c = let a = c .before .before .before .before .before .before .before .before .before .before .before .before .before .before .before .before .before .before .before .before .before .before .before .before .before .before .before .before .before .before .before .before .before .before .before .before .before .before .before .before .before .before .before .before .before .before .before .before .before .before .before .before .before .before .before in finish-done (a .args .self) (runs a) (c .before .before .before .before .before .before .before .before .before .before .before .before .before .before .before .before .before .before .before .before .before .before .before .before .before .before .before .before .before .before .before .before .before .before .before .before .before .before .before .before .before .before .before .before .before .before .before .early .ensures) (c .before .before .before .before .before .before .before .before .before .before .before .before .before .before .before .before .before .before .before .before .before .before .before .before .before .before .before .before .before .before .before .before .before .before .before .before .before .before .before .before .before .before .before .before .before .before .if1 .left) (c .before .before .before .before .before .before .before .before .before .before .before .before .before .before .before .before .before .before .before .before .before .before .before .before .before .before .before .before .before .before .before .before .before .before .before .before .before .before .before .before .before .before .before .before .before .decide-end .ensures) (c .before .before .before .before .before .before .before .before .before .before .before .before .before .before .before .before .before .before .before .before .before .before .before .before .before .before .before .before .before .before .before .before .before .before .before .before .before .before .before .before .before .before .before .before .if2 .left) refl (c .before .before .before .before .before .before .before .before .before .before .before .before .before .before .before .before .before .before .before .before .before .before .before .before .before .before .before .before .before .before .before .before .before .before .before .before .close-out .ensures) (c .before .before .before .before .before .before .before .before .before .before .before .before .before .before .before .before .before .before .before .before .before .before .before .before .before .before .before .before .close-index .ensures) (c .before .before .before .before .before .before .before .before .before .before .before .before .before .before .before .before .before .before .before .before .close-filters .ensures) (c .before .before .before .before .before .before .before .before .before .before .before .before .filter-last .ensures) (c .before .before .write-end .ensures) refl
+returns-3 c = let a = c .before .before .before .before .before .before .before .before .before .before .before .before .before .before .before .before .before .before .before .before .before .before .before .before .before .before .before .before .before .before .before .before .before .before .before .before .before .before .before .before .before .before .before .before .before .before .before .before .before .before .before .before .before .before .before .before .before .before .before in finish-done (a .args .self) (runs a) (c .before .before .before .before .before .before .before .before .before .before .before .before .before .before .before .before .before .before .before .before .before .before .before .before .before .before .before .before .before .before .before .before .before .before .before .before .before .before .before .before .before .before .before .before .before .before .before .before .before .before .before .early .ensures) (c .before .before .before .before .before .before .before .before .before .before .before .before .before .before .before .before .before .before .before .before .before .before .before .before .before .before .before .before .before .before .before .before .before .before .before .before .before .before .before .before .before .before .before .before .before .before .before .before .before .before .if1 .left) (c .before .before .before .before .before .before .before .before .before .before .before .before .before .before .before .before .before .before .before .before .before .before .before .before .before .before .before .before .before .before .before .before .before .before .before .before .before .before .before .before .before .before .before .before .before .before .before .before .before .decide-end .ensures) (c .before .before .before .before .before .before .before .before .before .before .before .before .before .before .before .before .before .before .before .before .before .before .before .before .before .before .before .before .before .before .before .before .before .before .before .before .before .before .before .before .before .before .before .before .before .before .before .before .if2 .left) refl (c .before .before .before .before .before .before .before .before .before .before .before .before .before .before .before .before .before .before .before .before .before .before .before .before .before .before .before .before .before .before .before .before .before .before .before .before .before .before .close-out .ensures) (c .before .before .before .before .before .before .before .before .before .before .before .before .before .before .before .before .before .before .before .before .before .before .before .before .before .before .before .before .before .before .close-index .ensures) (c .before .before .before .before .before .before .before .before .before .before .before .before .before .before .before .before .before .before .before .before .before .more-filters .ensures) (c .before .before .before .before .before .before .before .before .before .before .before .before .more-filters2 .ensures) (c .before .before .write-end .ensures) (omega (arith, c .before .before .before .before .before .before .before .before .before .before .before .filters2 .given, c .before .before .before .before .before .before .before .before .before .before .before .before .before .before .before .before .before .before .before .before .filters .given), (omega (arith, c .before .before .before .before .before .before .before .before .before .offsets2 .given, c .before .before .before .before .before .before .before .before .before .before .before .before .before .before .before .before .before .before .offsets .given), omega (arith, c .before .before .before .before .before .before .before .before .before .before .before .before .before .before .before .before .before .before .before .before .before .before .before .before .before .before .before .before .before .index .given))) refl
 
 pub finish-spec : {M : Type 1} → statement M
 finish-spec =
@@ -93,8 +77,8 @@ finish-spec =
     returns-2
     close-out-requires
     close-index-requires
-    close-filters-requires
-    filter-last-requires
+    more-filters-requires
+    more-filters-requires-2
     write-end-requires
     same-length
     same-length-2
