@@ -2,7 +2,7 @@
 use Prim.Native.Nat.{ℕ, _≤_, _<_}
 use mathlib.Core.Path.{_≡_, refl, sym, _∙_, ap, subst}
 use mathlib.Core.List.{List}
-use mathlib.Core.Bool.{true, false≢true}
+use mathlib.Core.Bool.{Bool, true, false, false≢true}
 use mathlib.Core.Logic.{_⊎_, inl, inr}
 use native.Mathlib.Omega.{arith}
 use lib.ListN.{length, take}
@@ -17,12 +17,14 @@ use Rattle.table.specs.Checked.{Checked, pass, refuse}
 use Rattle.table.specs.Options.{Options}
 use Rattle.table.specs.Build.{Building, accept}
 use Rattle.table.specs.Counts.{Counts}
-use Rattle.table.specs.Runs.{Runs, roomOf}
+use Rattle.table.specs.Runs.{Runs, roomOf, overlay}
 use Rattle.table.specs.Reads.{Answer, refused, pointFits, bufferAfter, Of, seekSays, lookupSays, stepSays}
 use Rattle.table.specs.Reads
+use Rattle.blocks.specs.Block.{blockBytes}
 use Rattle.blocks.specs.Count.{BlockCount}
 use Rattle.block_builder.specs.Builder.{countIn}
 use Rattle.block_builder.specs.declared.block_builder.BlockBuilder.{BlockBuilder}
+use Rattle.table_write.specs.Writes.{EndWritten, filterBlock, metaBlock, whole}
 use Rattle.builder.specs.declared.table_builder.Answer.the-variants as AnswerCase
 use Rattle.builder.specs.declared.table_builder.Options as Given
 use Rattle.builder.specs.declared.table_builder.Builder.{Builder}
@@ -60,6 +62,38 @@ block-added-fixed b at out restarts key value x y h k = λ i.
 
 pub made-fixed : OneAnswer.madeFixed
 made-fixed c gs bytes made f o x y h k = λ i. (both (h .said) (k .said) i, both (h .filters) (k .filters) i, both (h .offsets) (k .offsets) i)
+
+pub closed-fixed : OneAnswer.closedFixed
+closed-fixed closing b at out restarts x y h k = test closing (λ t. both (h .done t) (k .done t)) (λ f. both (h .kept f) (k .kept f))
+
+-- the runs behind an answer, done or kept
+runs-fixed : {A M : Type 0} (c : Bool) {x y u v m n : M} {a b : A} → (c ≡ true → _≡_ {A = A × M × M} (a, x, u) (b, y, v)) → (c ≡ false → (x ≡ m) × (u ≡ n))
+    → (c ≡ false → (y ≡ m) × (v ≡ n)) → _≡_ {A = M × M} (x, u) (y, v)
+runs-fixed c d h k = test c (λ t i. (d t i .1, d t i .2)) (λ f i. (both (h f .0) (k f .0) i, both (h f .1) (k f .1) i))
+
+pub indexed-fixed : OneAnswer.indexedFixed
+indexed-fixed closing b at indexed key index restarts x y h k =
+    runs-fixed closing (λ t. block-added-fixed indexed 0 index restarts key _ (h .added, x .0, x .1) (k .added, y .0, y .1) (h .done t) (k .done t)) (h .kept) (k .kept)
+
+pub more-fixed : OneAnswer.moreFixed
+more-fixed more c n waiting bytes made f o hashes x y h k =
+    runs-fixed more (λ t. made-fixed c _ bytes made f o (h .said, x .0, x .1) (k .said, y .0, y .1) (h .done t) (k .done t)) (h .kept) (k .kept)
+
+pub entered-fixed : OneAnswer.enteredFixed
+entered-fixed b at waiting key word value out restarts hashes x y h k =
+    let e = block-added-fixed b at out restarts key value (h .added, x .0, x .1) (k .added, y .0, y .1) (h .entry) (k .entry) in
+    λ i. (e i .1, e i .2, both (h .hash) (k .hash) i)
+
+-- where it can be written, it is the whole table
+end-written : (e : OneAnswer.End) (q : OneAnswer.Ready e) (x : List ℕ)
+    → EndWritten (e .interval) (e .filtering) (e .at) (e .bytes) (e .made) (e .indexed) (e .filters) (e .offsets) (e .index) (e .restarts) (e .out) x
+    → (let fb = filterBlock (e .bytes) (e .made) (e .filters) (e .offsets) in
+    x ≡ overlay (whole (q .blocks) fb (metaBlock (e .interval) (e .filtering) (e .at) (length fb)) (blockBytes (q .every) (q .entries))) (q .before))
+end-written e q x h = h .done (q .fits) .wrote (q .least) (q .most) (q .every) (q .entries) (q .stands) (q .blocks) (q .before) (q .laid) (q .ends) (q .room)
+
+pub end-fixed : OneAnswer.endFixed
+end-fixed e (inl n) x y h k = both (h .kept n) (k .kept n)
+end-fixed e (inr q) x y h k = both (end-written e q x h) (end-written e q y k)
 
 pub said-fixed : OneAnswer.saidFixed
 said-fixed s says ordered k es is rise x y g h = λ i. (both (g .answer es is rise) (h .answer es is rise) i, both (g .buffer es is rise) (h .buffer es is rise) i)

@@ -1,6 +1,6 @@
 -- Two answers that meet one promise, with all that they leave in lent memory, are the same. Of a contract that says what an answer is equal to this is
 -- `equalFixed`; here stand all others, each on the inputs on which it fixes the answer.
-use Prim.Native.Nat.{ℕ, _<_}
+use Prim.Native.Nat.{ℕ, _≤_, _<_}
 use mathlib.Core.Path.{_≡_}
 use mathlib.Core.List.{List}
 use mathlib.Core.Bool.{Bool, true, false}
@@ -12,13 +12,13 @@ use Rattle.codec.specs.Shown.{Shown}
 use Rattle.codec.specs.declared.blockhandle.OneHandle.{OneHandle}
 use Rattle.codec.specs.declared.put.Written.{Written}
 use Rattle.keys.specs.Order.{Point}
-use Rattle.blocks.specs.Block.{Entry}
+use Rattle.blocks.specs.Block.{Entry, Pair, blockBytes}
 use Rattle.blocks.specs.Search.{readable}
 use Rattle.filters.specs.FilterBlock.{Filtering}
 use Rattle.table.specs.Checked.{pass, refuse}
 use Rattle.table.specs.Options.{Options, Addition, additionFits}
 use Rattle.table.specs.Build.{Building, begin, acceptAll}
-use Rattle.table.specs.Runs.{Runs, roomOf}
+use Rattle.table.specs.Runs.{Runs, roomOf, overlay}
 use Rattle.table.specs.Table.{footer}
 use Rattle.table.specs.Promise.{Passed}
 use Rattle.table.specs.Reads.{pointFits}
@@ -31,6 +31,7 @@ use Rattle.block_reader.specs.Said.{Said}
 use Rattle.filter_block.specs.declared.filter_block.Made.{Made}
 use Rattle.filter_block.specs.Make.{MadeFilters}
 use Rattle.table_block.specs.Answers.{BloomRead}
+use Rattle.table_write.specs.Writes.{ClosedOut, ClosedIndex, MoreFilters, EnteredRuns, EndFits, EndWritten, filterBlock, metaBlock, whole}
 use Rattle.builder.specs.declared.table_builder.Options as Given
 use Rattle.builder.specs.declared.table_builder.Builder.{Builder}
 use Rattle.builder.specs.declared.table_builder.Started.{Started}
@@ -75,6 +76,65 @@ blockAddedFixed = (b : BlockBuilder) (at : ℕ) (out restarts key value : List �
 abbrev pub madeFixed : Type 0
 madeFixed = (c : Filtering) (gs : List (List ℕ)) (bytes made : ℕ) (f o : List ℕ)
     → Fixed (Made × List ℕ × List ℕ) (λ x. MadeFilters c gs bytes made (x .0) f (x .1) o (x .2))
+
+-- a block closed, or not: written
+abbrev pub closedFixed : Type 0
+closedFixed = (closing : Bool) (b : BlockBuilder) (at : ℕ) (out restarts : List ℕ) → Fixed (List ℕ) (λ x. ClosedOut closing b at out x restarts)
+
+-- and indexed
+abbrev pub indexedFixed : Type 0
+indexedFixed = (closing : Bool) (b : BlockBuilder) (at : ℕ) (indexed : BlockBuilder) (key index restarts : List ℕ)
+    → Fixed (List ℕ × List ℕ) (λ x. ClosedIndex closing b at indexed key index (x .0) restarts (x .1))
+
+-- more filters, or not
+abbrev pub moreFixed : Type 0
+moreFixed = (more : Bool) (c : Filtering) (n waiting bytes made : ℕ) (f o hashes : List ℕ)
+    → Fixed (List ℕ × List ℕ) (λ x. MoreFilters more c n waiting bytes made f (x .0) o (x .1) hashes)
+
+-- an entry and its hash
+abbrev pub enteredFixed : Type 0
+enteredFixed = (b : BlockBuilder) (at waiting : ℕ) (key word value out restarts hashes : List ℕ)
+    → Fixed (List ℕ × List ℕ × List ℕ) (λ x. EnteredRuns b at waiting key word value out (x .0) restarts (x .1) hashes (x .2))
+
+-- ---- the end of a table, where it cannot be written, or its index block stands in its runs and there is room
+
+-- what it is written from, and the output
+pub record End : Type 0 where
+  pub interval : ℕ
+  pub filtering : Filtering
+  pub at : ℕ
+  pub bytes : ℕ
+  pub made : ℕ
+  pub indexed : BlockBuilder
+  pub filters : List ℕ
+  pub offsets : List ℕ
+  pub index : List ℕ
+  pub restarts : List ℕ
+  pub out : List ℕ
+
+-- its numbers are of 64 bits, and what it is written from stands within the runs
+abbrev pub Fits : End → Type 0
+Fits e = EndFits (e .at) (e .bytes) (e .made) (e .indexed) (length (e .filters)) (length (e .offsets)) (length (e .index))
+
+-- an index block stands in its runs, and there is room behind the data blocks
+pub record Ready (e : End) : Type 0 where
+  pub fits : Fits e
+  pub least : 1 ≤ e .interval
+  pub most : e .interval ≤ 1024
+  pub every : ℕ
+  pub entries : List Pair
+  pub stands : Blocks.Stands every entries (e .indexed) 0 (e .index) (e .restarts)
+  pub blocks : List ℕ
+  pub before : List ℕ
+  pub laid : e .out ≡ overlay blocks before
+  pub ends : length blocks ≡ e .at
+  pub room : (let fb = filterBlock (e .bytes) (e .made) (e .filters) (e .offsets) in
+      length (whole blocks fb (metaBlock (e .interval) (e .filtering) (e .at) (length fb)) (blockBytes every entries)) ≤ length before)
+
+-- the end written
+abbrev pub endFixed : Type 0
+endFixed = (e : End) → (Fits e → ⊥) ⊎ Ready e
+    → Fixed (List ℕ) (λ x. EndWritten (e .interval) (e .filtering) (e .at) (e .bytes) (e .made) (e .indexed) (e .filters) (e .offsets) (e .index) (e .restarts) (e .out) x)
 
 -- ---- one block, where it can be read
 

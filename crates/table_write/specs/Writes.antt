@@ -88,16 +88,19 @@ filterBlock bytes made filters offsets = filterBlockOf (take bytes filters) (tak
 unfoldable pub metaBlock : ℕ → Filtering → ℕ → ℕ → List ℕ
 metaBlock interval c at size = blockBytes interval (record { key = metaName c; value = handleBytes (record { offset = at; size = size }) } ∷ [])
 
+-- a whole table: the data blocks, then filter block, metaindex, index and footer
+abbrev pub whole : List ℕ → List ℕ → List ℕ → List ℕ → List ℕ
+whole w fb mb ib =
+    let t = w ++ framed fb in
+    let u = t ++ framed mb in
+    u ++ framed ib ++ footerBytes (record { offset = length t; size = length mb }) (record { offset = length u; size = length ib })
+
 -- filter block, metaindex, index and footer behind the data blocks, where there is room
 pub record EndPut (interval : ℕ) (c : Filtering) (at bytes made : ℕ) (indexed : BlockBuilder) (filters offsets index restarts out out′ : List ℕ) : Type 0 where
   pub wrote : 1 ≤ interval → interval ≤ 1024 → (i : ℕ) (ps : List Pair) → Blocks.Stands i ps indexed 0 index restarts
       → (w r : List ℕ) → out ≡ overlay w r → length w ≡ at
       → (let fb = filterBlock bytes made filters offsets in
-      let mb = metaBlock interval c at (length fb) in
-      let ib = blockBytes i ps in
-      let t = w ++ framed fb in
-      let u = t ++ framed mb in
-      let all = u ++ framed ib ++ footerBytes (record { offset = length t; size = length mb }) (record { offset = length u; size = length ib }) in
+      let all = whole w fb (metaBlock interval c at (length fb)) (blockBytes i ps) in
       length all ≤ length r → out′ ≡ overlay all r)
 
 -- the end written, or nothing
