@@ -18,7 +18,6 @@ use block_builder::block_builder::BlockBuilder;
 use bloom::filter::Filter;
 use codec::put::Written;
 use codec::varint::varint_len;
-use filter_block::filter_block::Made;
 use table_block::footer::TABLE_LIMIT;
 use table_write::table_write::close_index;
 use table_write::table_write::close_out;

@@ -5,7 +5,7 @@ use mathlib.Core.Path.{_≡_, refl, sym, ap, _∙_}
 use mathlib.Core.List.{List}
 use mathlib.Core.Option.{some}
 use native.Mathlib.Omega.{arith}
-use lib.ListN.{length, take}
+use lib.ListN.{length}
 use Rattle.keys.specs.Order.{Point, isLess, pointOf, byPoint}
 use Rattle.keys.proofs.AnswerLaws.{less-told}
 use Rattle.blocks.specs.Search.{seekIn}
