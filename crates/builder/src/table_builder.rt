@@ -772,26 +772,23 @@ impl Builder {
                 state: self,
             };
         }
-        let cut = p.cut;
         let next = p.next;
         let last = next.indexed;
-        let open = self.pending;
-        let indexed = self.indexed;
         let options = self.options;
         let filter = options.filter;
-        close_out(cut, open, self.written, out, restarts);
+        close_out(p.cut, self.pending, self.written, out, restarts);
         close_index(
-            cut,
-            open,
+            p.cut,
+            self.pending,
             self.written,
-            indexed,
+            self.indexed,
             &last.last,
             last.len,
             index,
             index_restarts,
         );
         more_filters(
-            cut,
+            p.cut,
             filter,
             hashes,
             self.waiting,
@@ -801,9 +798,8 @@ impl Builder {
             offsets,
             self.made,
         );
-        let pending = p.pending;
         write_entry(
-            pending,
+            p.pending,
             next.written,
             p.waiting,
             &key[..n],
@@ -856,22 +852,18 @@ impl Builder {
                 state: self,
             };
         }
-        let last = p.last;
-        let sizes = p.sizes;
-        let open = self.pending;
-        let closing = open.restarts != 0;
-        let indexed = self.indexed;
-        let under = last.indexed;
+        let closing = self.pending.restarts != 0;
+        let last = p.last.indexed;
         let options = self.options;
         let filter = options.filter;
-        close_out(closing, open, self.written, out, restarts);
+        close_out(closing, self.pending, self.written, out, restarts);
         close_index(
             closing,
-            open,
+            self.pending,
             self.written,
-            indexed,
-            &under.last,
-            under.len,
+            self.indexed,
+            &last.last,
+            last.len,
             index,
             index_restarts,
         );
@@ -880,33 +872,33 @@ impl Builder {
             filter,
             hashes,
             self.waiting,
-            last.written / 2048,
+            p.last.written / 2048,
             filters,
             self.filtered,
             offsets,
             self.made,
         );
         more_filters(
-            last.waiting != 0,
+            p.last.waiting != 0,
             filter,
             hashes,
-            last.waiting,
-            sizes.made,
+            p.last.waiting,
+            p.sizes.made,
             filters,
-            last.filtered,
+            p.last.filtered,
             offsets,
-            last.made,
+            p.last.made,
         );
         write_end(
             out,
-            last.written,
+            p.last.written,
             options.interval,
             filter,
             filters,
-            sizes.bytes,
+            p.sizes.bytes,
             offsets,
-            sizes.made,
-            under,
+            p.sizes.made,
+            last,
             index,
             index_restarts,
         );

@@ -60,38 +60,38 @@ more-filters-requires : tie.Need-more-filters-requires
 more-filters-requires c κs = search needs
 
 array-share-prefix-key-2 : tie.Need-array-share-prefix-key-2
-array-share-prefix-key-2 c = omega (arith, c .before .before .before .before .before .before .before .before .before .before .before .before .before .before .before .before .before .before .before .before .before .before .before .before .before .before .before .before .before .before .before .before .before .before .put-key .ensures .0, c .before .before .before .before .before .before .before .before .before .before .before .before .before .before .before .before .before .before .before .before .before .before .before .before .before .before .before .before .before .before .before .before .before .before .put-key .ensures .1 .0)
+array-share-prefix-key-2 c = omega (arith, c .before .before .before .before .before .before .before .before .before .before .before .before .before .before .before .before .before .before .before .before .before .before .before .before .before .before .before .before .before .before .before .put-key .ensures .0, c .before .before .before .before .before .before .before .before .before .before .before .before .before .before .before .before .before .before .before .before .before .before .before .before .before .before .before .before .before .before .before .put-key .ensures .1 .0)
 
 slice-aggregate-write-entry : tie.Need-slice-aggregate-write-entry
-slice-aggregate-write-entry c = let p = c .before .before .before .before .before .before .before .before .before .before .before .before .before .before .before .before .before .before .before .before .before .before .before .before .before .before .before .before .before .before .before .before .before .before .before .put-key in sym (length-take-le (p .result) _ (omega (arith, p .ensures .0, p .ensures .1 .0)))
+slice-aggregate-write-entry c = let p = c .before .before .before .before .before .before .before .before .before .before .before .before .before .before .before .before .before .before .before .before .before .before .before .before .before .before .before .before .before .before .before .before .put-key in sym (length-take-le (p .result) _ (omega (arith, p .ensures .0, p .ensures .1 .0)))
 
 write-entry-requires : tie.Need-write-entry-requires
 write-entry-requires c κs = search needs
 
 same-length : tie.Need-same-length
-same-length c = search (needs, c .before .before .before .before .before .out2 .given, c .before .before .before .before .before .before .before .before .before .before .before .before .before .before .before .before .before .before .before .before .before .before .before .before .before .before .before .before .before .before .before .before .out .given)
+same-length c = search (needs, c .before .before .before .before .before .out2 .given, c .before .before .before .before .before .before .before .before .before .before .before .before .before .before .before .before .before .before .before .before .before .before .before .before .before .before .before .before .before .before .before .out .given)
 
 same-length-2 : tie.Need-same-length-2
-same-length-2 c = search (needs, c .before .before .before .before .before .before .before .before .before .before .before .before .before .before .before .before .before .before .before .before .before .before .before .before .index .given)
+same-length-2 c = search (needs, c .before .before .before .before .before .before .before .before .before .before .before .before .before .before .before .before .before .before .before .before .before .before .before .index .given)
 
 same-length-3 : tie.Need-same-length-3
-same-length-3 c = search (needs, c .before .before .before .before .before .before .before .before .before .before .before .before .before .before .before .filters .given)
+same-length-3 c = search (needs, c .before .before .before .before .before .before .before .before .before .before .before .before .before .before .filters .given)
 
 same-length-4 : tie.Need-same-length-4
 same-length-4 c = search (needs, c .before .before .before .restarts .given)
 
 same-length-5 : tie.Need-same-length-5
-same-length-5 c = search (needs, c .before .before .before .before .before .before .before .before .before .before .before .before .before .before .before .before .before .before .before .before .before .before .index-restarts .given)
+same-length-5 c = search (needs, c .before .before .before .before .before .before .before .before .before .before .before .before .before .before .before .before .before .before .before .before .before .index-restarts .given)
 
 same-length-6 : tie.Need-same-length-6
-same-length-6 c = search (needs, c .before .before .before .before .before .before .before .before .before .before .before .before .before .offsets .given)
+same-length-6 c = search (needs, c .before .before .before .before .before .before .before .before .before .before .before .before .offsets .given)
 
 same-length-7 : tie.Need-same-length-7
 same-length-7 c = search (needs, c .before .hashes .given)
 
 returns-3 : tie.Need-returns-3
 unfolding lengthsOf keyOf
-returns-3 c = let a = c .before .before .before .before .before .before .before .before .before .before .before .before .before .before .before .before .before .before .before .before .before .before .before .before .before .before .before .before .before .before .before .before .before .before .before .before .before .before .before .before .before .before .before .before .before .before .before .before .before .before .before .before .before .before .before .before .before .before .before in add-put (a .args .self) (runs a) (given a) (c .before .before .before .before .before .before .before .before .before .before .before .before .before .before .before .before .before .before .before .before .before .before .before .before .before .before .before .before .before .before .before .before .before .before .before .before .before .before .before .before .before .before .before .before .before .before .before .before .before .addition-fits .ensures) (c .before .before .before .before .before .before .before .before .before .before .before .before .before .before .before .before .before .before .before .before .before .before .before .before .before .before .before .before .before .before .before .before .before .before .before .before .before .before .before .before .before .before .before .before .before .before .before .before .early .ensures) (c .before .before .before .before .before .before .before .before .before .before .before .before .before .before .before .before .before .before .before .before .before .before .before .before .before .before .before .before .before .before .before .before .before .before .before .before .before .before .before .before .before .before .before .before .before .before .before .if1 .left) (rw (c .before .before .before .before .before .before .before .before .before .before .before .before .before .before .before .before .before .before .before .before .before .before .before .before .before .before .before .before .before .before .before .before .before .before .before .before .before .before .before .before .before .before .before .before .before .put-key .ensures .1 .1) at (put-done (a .args .self) (lengthsOf (runs a)) _ (a .args .word .now) (a .args .value .now) (runs a) (c .before .before .before .before .before .before .before .before .before .before .before .before .before .before .before .before .before .before .before .before .before .before .before .before .before .before .before .before .before .before .before .before .before .before .before .before .before .before .before .before .before .before .decide .ensures) (c .before .before .before .before .before .before .before .before .before .before .before .before .before .before .before .before .before .before .before .before .before .before .before .before .before .before .before .before .before .before .before .before .before .before .before .before .before .before .before .before .before .if2 .left) (c .before .before .before .before .before .before .before .before .before .before .before .before .before .before .before .before .before .before .before .before .before .before .before .before .before .before .before .before .before .before .before .before .before .close-out .ensures) (c .before .before .before .before .before .before .before .before .before .before .before .before .before .before .before .before .before .before .before .before .before .before .before .before .before .close-index .ensures) (c .before .before .before .before .before .before .before .before .before .before .before .before .before .before .before .before .more-filters .ensures) (c .before .before .before .before .before .before .write-entry .ensures)))
+returns-3 c = let a = c .before .before .before .before .before .before .before .before .before .before .before .before .before .before .before .before .before .before .before .before .before .before .before .before .before .before .before .before .before .before .before .before .before .before .before .before .before .before .before .before .before .before .before .before .before .before .before .before .before .before .before .before .before .before .before .before in add-put (a .args .self) (runs a) (given a) (c .before .before .before .before .before .before .before .before .before .before .before .before .before .before .before .before .before .before .before .before .before .before .before .before .before .before .before .before .before .before .before .before .before .before .before .before .before .before .before .before .before .before .before .before .before .before .addition-fits .ensures) (c .before .before .before .before .before .before .before .before .before .before .before .before .before .before .before .before .before .before .before .before .before .before .before .before .before .before .before .before .before .before .before .before .before .before .before .before .before .before .before .before .before .before .before .before .before .early .ensures) (c .before .before .before .before .before .before .before .before .before .before .before .before .before .before .before .before .before .before .before .before .before .before .before .before .before .before .before .before .before .before .before .before .before .before .before .before .before .before .before .before .before .before .before .before .if1 .left) (rw (c .before .before .before .before .before .before .before .before .before .before .before .before .before .before .before .before .before .before .before .before .before .before .before .before .before .before .before .before .before .before .before .before .before .before .before .before .before .before .before .before .before .before .put-key .ensures .1 .1) at (put-done (a .args .self) (lengthsOf (runs a)) _ (a .args .word .now) (a .args .value .now) (runs a) (c .before .before .before .before .before .before .before .before .before .before .before .before .before .before .before .before .before .before .before .before .before .before .before .before .before .before .before .before .before .before .before .before .before .before .before .before .before .before .before .decide .ensures) (c .before .before .before .before .before .before .before .before .before .before .before .before .before .before .before .before .before .before .before .before .before .before .before .before .before .before .before .before .before .before .before .before .before .before .before .before .before .before .if2 .left) (c .before .before .before .before .before .before .before .before .before .before .before .before .before .before .before .before .before .before .before .before .before .before .before .before .before .before .before .before .before .before .before .before .close-out .ensures) (c .before .before .before .before .before .before .before .before .before .before .before .before .before .before .before .before .before .before .before .before .before .before .before .before .close-index .ensures) (c .before .before .before .before .before .before .before .before .before .before .before .before .before .before .before .more-filters .ensures) (c .before .before .before .before .before .before .write-entry .ensures)))
 
 pub add-spec : {M : Type 1} → statement M
 add-spec =
