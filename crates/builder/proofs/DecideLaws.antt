@@ -168,7 +168,7 @@ module _ (s : Builder) (l : Lengths) (key : List ℕ) (v : ℕ) (b : BlockBuilde
   decided-not : {a : ℕ} → (a ≡ 4) ⊎ (a ≡ 5) → (Whole (nextOf s key v) → a ≡ decideOf s l key v) → DecidedIs s l key v (record { answer = a; cut = false; pending = b; waiting = 0; next = n })
   decided-not {a} k e =
       let some : a ≡ 0 → ⊥ = λ z. ⊎-elim (λ x. omega arith) (λ x. omega arith) k in
-      record { kind = inr k; answer = e; cut = λ z. absurd (some z); pending = λ z. absurd (some z); waiting = λ z. absurd (some z); next = λ z. absurd (some z); small = λ z. absurd (some z) }
+      record { kind = inr k; answer = e; cut = λ z. absurd (some z); pending = λ z. absurd (some z); waiting = λ z. absurd (some z); next = λ z. absurd (some z) }
 
   pub decided-large : {t : Bool} → t ≡ small s → t ≡ false → DecidedIs s l key v (record { answer = 5; cut = false; pending = b; waiting = 0; next = n })
   unfolding decideOf
@@ -191,6 +191,6 @@ module _ (s : Builder) (l : Lengths) (key : List ℕ) (v : ℕ) (b : BlockBuilde
     unfolding decideOf
     decided-full j = decided-not (inr refl) (λ w. rw (sym e ∙ f, sym g ∙ h, fits-is w ∙ j))
 
-    pub decided-ok : Small s → {c : Bool} → c ≡ cutOf s → r ≡ true → DecidedIs s l key v (record { answer = 0; cut = c; pending = m′ .pending; waiting = m′ .waiting; next = n′ })
+    pub decided-ok : {c : Bool} → c ≡ cutOf s → r ≡ true → DecidedIs s l key v (record { answer = 0; cut = c; pending = m′ .pending; waiting = m′ .waiting; next = n′ })
     unfolding decideOf
-    decided-ok i c j = record { kind = inl refl; cut = λ z. c; answer = λ w. rw (sym e ∙ f, sym g ∙ h, fits-is w ∙ j); pending = λ z. ap (λ (x : Builder). x .pending) p; waiting = λ z. ap (λ (x : Builder). x .waiting) p; next = λ z. next-is; small = λ z. i }
+    decided-ok c j = record { kind = inl refl; cut = λ z. c; answer = λ w. rw (sym e ∙ f, sym g ∙ h, fits-is w ∙ j); pending = λ z. ap (λ (x : Builder). x .pending) p; waiting = λ z. ap (λ (x : Builder). x .waiting) p; next = λ z. next-is }

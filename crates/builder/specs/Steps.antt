@@ -190,7 +190,6 @@ pub record DecidedIs (s : Builder) (l : Lengths) (key : List ℕ) (value : ℕ) 
   pub pending : p .answer ≡ 0 → p .pending ≡ midOf s key .pending
   pub waiting : p .answer ≡ 0 → p .waiting ≡ midOf s key .waiting
   pub next : p .answer ≡ 0 → p .next ≡ nextOf s key value
-  pub small : p .answer ≡ 0 → Small s
 
 -- ---- the end
 

@@ -2,7 +2,7 @@
 use crate::fields;
 use crate::fields::front;
 use crate::show;
-use bloom::filter as bloom;
+use bloom::filter as one;
 use bloom::filter::Filter;
 use filter_block::filter_block as groups;
 use filter_block::filter_block::Made;
@@ -23,13 +23,13 @@ fn hash(s: &[u8], at: usize) {
     let mut a = [0u8; 2600];
     let fa = fields::field(s, at, &mut a);
     show::say(b" ");
-    show::word(bloom::bloom_hash(front(&a, fa.len)));
+    show::word(one::bloom_hash(front(&a, fa.len)));
 }
 
 fn probes(s: &[u8], at: usize) {
     let bits = fields::number(s, at);
     show::say(b" ");
-    show::number64(bloom::probe_count((bits.value % 4294967296) as u32) as u64);
+    show::number64(one::probe_count((bits.value % 4294967296) as u32) as u64);
 }
 
 struct Listed {
@@ -47,7 +47,7 @@ fn one_hash(s: &[u8], at: usize) -> OneHash {
     let mut a = [0u8; 2600];
     let fa = fields::field(s, at, &mut a);
     OneHash {
-        hash: bloom::bloom_hash(front(&a, fa.len)),
+        hash: one::bloom_hash(front(&a, fa.len)),
         next: fa.next,
     }
 }
@@ -76,11 +76,11 @@ fn create(s: &[u8], at: usize) {
     let all = h.all;
     let list = some_of(&all, h.count);
     let mut run = [0xee_u8; 2700];
-    let w = bloom::create_filter(choice(bits.value), list, &mut run, 3);
+    let w = one::create_filter(choice(bits.value), list, &mut run, 3);
     show::written(&run, 3, w);
     let mut short = [0xee_u8; 2700];
     let place = show::one_short(2700, 3, w);
-    let v = bloom::create_filter(choice(bits.value), list, &mut short, place);
+    let v = one::create_filter(choice(bits.value), list, &mut short, place);
     if show::some(3, w) {
         show::refused(&short, v);
     }
@@ -91,7 +91,7 @@ fn may(s: &[u8], at: usize) {
     let fa = fields::field(s, at, &mut a);
     let h = one_hash(s, fa.next);
     show::yes(
-        bloom::key_may_match(front(&a, fa.len), h.hash),
+        one::key_may_match(front(&a, fa.len), h.hash),
         b" no",
         b" may",
     );

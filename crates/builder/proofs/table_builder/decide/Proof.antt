@@ -47,10 +47,8 @@ returns-3 c =
 
 returns-4 : tie.Need-returns-4
 returns-4 c =
-    let a = c .before .before .before .before .before .before .before .before .before .before .before .before in
-    let x = sane-is (a .args .s) (a .args .l) (a .pre .sound) in
-    let b = a .args in
-    decided-ok (b .s) (b .l) (b .key .now) (b .value-len) (b .s .pending) (b .s) (c .before .before .before .before .before .before .before .before .before .is-small .ensures) (not-false _ (c .before .before .before .before .before .before .before .before .if1 .left)) (c .before .before .before .before .before .before .before .is-above .ensures) (not-false _ (c .before .before .before .before .before .before .if2 .left)) (c .before .before .before .before .cut-before .ensures) (c .before .before .before .entered .ensures) (c .before .before .has-room .ensures) (small-is (b .s) (x .options) (sym (c .before .before .before .before .before .before .before .before .before .is-small .ensures) ∙ not-false _ (c .before .before .before .before .before .before .before .before .if1 .left))) (c .before .before .before .before .before .is-cut .ensures) (not-false _ (c .before .if3 .left))
+    let b = c .before .before .before .before .before .before .before .before .before .before .before .before .args in
+    decided-ok (b .s) (b .l) (b .key .now) (b .value-len) (b .s .pending) (b .s) (c .before .before .before .before .before .before .before .before .before .is-small .ensures) (not-false _ (c .before .before .before .before .before .before .before .before .if1 .left)) (c .before .before .before .before .before .before .before .is-above .ensures) (not-false _ (c .before .before .before .before .before .before .if2 .left)) (c .before .before .before .before .cut-before .ensures) (c .before .before .before .entered .ensures) (c .before .before .has-room .ensures) (c .before .before .before .before .before .is-cut .ensures) (not-false _ (c .before .if3 .left))
 
 pub decide-spec : {M : Type 1} → statement M
 decide-spec =
