@@ -1,2 +1,4 @@
 // Building a block into lent runs.
+#![tactic(auto)]
+
 pub mod block_builder;

@@ -107,7 +107,7 @@ head_in (HeadCase.Head sh fr v n) = some (record { shared = sh; fresh = fr; valu
 
 head_said : (o : Option Head) {r : HeadRead} → head_answer o ≡ r → o ≡ head_in r
 unfolding head_answer
-head_said = came_of head_answer head_in (λ o. elim o [ none ↦ refl | some h ↦ refl ])
+head_said = came_of head_answer head_in (λ o. elim o as (λ o. head_in (head_answer o) ≡ o) [ none ↦ refl | some h ↦ refl ])
 
 pub numbers_within : (rest : List ℕ) {sh fr v z : ℕ} → head_answer (head rest) ≡ HeadCase.Head sh fr v z → z ≤ length rest
 numbers_within rest e = (head_size rest (head_said (head rest) e)).there

@@ -130,7 +130,7 @@ rows_in (RowsCase.Rows end count) = some (record { end = end; count = count })
 
 pub rows_said : (o : Option Rows) {r : RowsRead} → rows_answer o ≡ r → o ≡ rows_in r
 unfolding rows_answer
-rows_said = came_of rows_answer rows_in (λ o. elim o [ none ↦ refl | some w ↦ refl ])
+rows_said = came_of rows_answer rows_in (λ o. elim o as (λ o. rows_in (rows_answer o) ≡ o) [ none ↦ refl | some w ↦ refl ])
 
 pub no_block : (s : List ℕ) → rows_answer (rows_of s) ≡ RowsCase.Bad → block s ≡ none
 unfolding ◌>>=◌

@@ -99,7 +99,7 @@ planned i n before at (p ∷ ps) =
 pub planned_pairs : (i n : ℕ) (before : List ℕ) (at : ℕ) (ps : List Pair) → pairs_of (planned i n before at ps) ≡ ps
 unfolding planned
 planned_pairs i n before at [] = refl
-planned_pairs i n before at (p ∷ ps) = ap (λ (r : List Pair). p ∷ r) (planned_pairs _ _ _ _ ps)
+planned_pairs i n before at (p ∷ ps) = ap (λ (r : List Pair). p ∷ r) (planned_pairs i (since i n) p.key (at + length (entry_bytes (sharing i n before p.key) p)) ps)
 
 pub sharing_shares : (i n : ℕ) (before key : List ℕ) → Shares before key (sharing i n before key)
 unfolding sharing

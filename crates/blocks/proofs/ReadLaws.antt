@@ -81,7 +81,7 @@ reads_of (suc n) s at before es p = go (λ at before es. reads_of n s at before 
 -- and so from the start of each entry on
 pub reads_from : {s : List ℕ} {at : ℕ} {before : List ℕ} (bs : List Entry) (e : Entry) (cs : List Entry) → Reads s at before (bs ++ (e ∷ cs)) → (b : List ℕ) × Reads s e.start b (e ∷ cs)
 reads_from {s} {at} {before} [] e cs (Reads.more n read r) = (before, subst (λ (p : ℕ). Reads s p before (e ∷ cs)) (sym (entry_start at before (drop at s) read)) (Reads.more n read r))
-reads_from (b ∷ bs) e cs (Reads.more n read r) = reads_from bs e cs r
+reads_from {s} {at} {before} (b ∷ bs) e cs (Reads.more n read r) = reads_from {at = next b} {before = b.key} bs e cs r
 
 pub reads_fresh : {s : List ℕ} {at : ℕ} {before : List ℕ} {e : Entry} {cs : List Entry} → e.shared ≡ 0 → Reads s at before (e ∷ cs) → Reads s at [] (e ∷ cs)
 reads_fresh {s} {at} {before} z (Reads.more n read r) = Reads.more n (entry_fresh at before (drop at s) read z) r
@@ -198,6 +198,7 @@ restart_at_lem (q ∷ rs) (e ∷ es) t r m = go (restart_at_lem rs es) (restart_
         (λ n. at_later e (ih (and_r (eqb e.shared 0) (restarts_stand rs es) u) r n))
         (Memᴰ.cases_cons m)
     go ih ih' false b = at_later e (ih' (rw (b, restarts_stand) at t) r m)
+restart_at_lem (q ∷ rs) [] t r m = elim t [ ]
 
 -- and what is read from there on, after no key at all
 pub record Restart (s : List ℕ) (r : ℕ) (es : List Entry) : Type 0 where

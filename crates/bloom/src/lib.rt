@@ -1,2 +1,4 @@
 // Bloom filters: made and asked.
+#![tactic(auto)]
+
 pub mod filter;

@@ -10,7 +10,7 @@ use borrow.Author.Tests.{le-leb, eq-eqb}
 use Rattle.codec.proofs.Prelude.{test, true_is, apart}
 use Rattle.keys.specs.Order.{internal, below, separator}
 use Rattle.keys.proofs.KeyLaws.{internal_length}
-use Rattle.blocks.specs.Block.{Pair, since_all}
+use Rattle.blocks.specs.Block.{Pair, since, since_all}
 use Rattle.blocks.specs.Count.{BlockCount, count_of}
 use Rattle.block_builder.specs.Builder.{count_in, builder_after, builder_with}
 use Rattle.blocks.proofs.CountLaws.{count_zero}
@@ -38,7 +38,7 @@ use Rattle.builder.proofs.EnterLaws.{entered_counted}
 since_all_lem : (i n : ℕ) (ps : List Pair) → 1 ≤ i → n ≤ i → since_all i n ps ≤ i
 unfolding since_all
 since_all_lem i n [] h k = k
-since_all_lem i n (p ∷ ps) h k = since_all_lem i _ ps h (since_most i n h k)
+since_all_lem i n (p ∷ ps) h k = since_all_lem i (since i n) ps h (since_most i n h k)
 
 module _ {o : Options} {b : Building} {s : Builder} (h : Counted o b s) (f : options_fit o ≡ true) (room : ℕ) (u : FitsRoom room (between o b)) (l : room ≤ table_limit) where
   pub counted_small : small s ≡ true

@@ -1,2 +1,4 @@
 // Building a table, addition by addition, over lent runs.
+#![tactic(auto)]
+
 pub mod table_builder;

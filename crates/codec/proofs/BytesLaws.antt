@@ -181,6 +181,8 @@ pub same_bytes_lem : (a b : List ℕ) → T (same_bytes a b) → a ≡ b
 unfolding same_bytes
 same_bytes_lem [] [] t = refl
 same_bytes_lem (x ∷ xs) (y ∷ ys) t = ap₂ ◌∷◌ (eqb→eq x y (and_l (eqb x y) (same_bytes xs ys) t)) (same_bytes_lem xs ys (and_r (eqb x y) (same_bytes xs ys) t))
+same_bytes_lem [] (y ∷ ys) t = elim t [ ]
+same_bytes_lem (x ∷ xs) [] t = elim t [ ]
 
 pub bytes_same_as : (a b : List ℕ) → a ≡ b → T (same_bytes a b)
 bytes_same_as a b e = rw e (true_is (same_same b))

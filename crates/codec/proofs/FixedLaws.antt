@@ -55,4 +55,4 @@ number_in (NumberCase.Value x) = some x
 
 pub number_said : (o : Option ℕ) {r : NumberRead} → number_answer o ≡ r → o ≡ number_in r
 unfolding number_answer
-number_said = came_of number_answer number_in (λ o. elim o [ none ↦ refl | some x ↦ refl ])
+number_said = came_of number_answer number_in (λ o. elim o as (λ o. number_in (number_answer o) ≡ o) [ none ↦ refl | some x ↦ refl ])

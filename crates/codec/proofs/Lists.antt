@@ -55,6 +55,7 @@ module _ {A : Type 0} {P : A → Type 0} where
   pub all_mem : {x : A} {xs : List A} → All P xs → Memᴰ x xs → P x
   all_mem (All.cons p ps) (Memᴰ.head e) = subst P (sym e) p
   all_mem (All.cons p ps) (Memᴰ.tail m) = all_mem ps m
+  all_mem All.nil m = elim m [ ]
 
   pub all_of : (xs : List A) → ((x : A) → Memᴰ x xs → P x) → All P xs
   all_of [] f = All.nil
@@ -68,6 +69,7 @@ module _ {A : Type 0} {P : A → Type 0} where
 pub mem_unmap : {A B : Type 0} (f : A → B) (xs : List A) {b : B} → Memᴰ b (map f xs) → (a : A) × Memᴰ a xs × (b ≡ f a)
 mem_unmap f (x ∷ xs) (Memᴰ.head e) = (x, Memᴰ.head refl, e)
 mem_unmap f (x ∷ xs) (Memᴰ.tail m) = let r = mem_unmap f xs m in (r.0, Memᴰ.tail r.1, r.2)
+mem_unmap {A = A} {B = B} f [] {b = b} x' = elim x' [ ]
 
 pub all_map : {A B : Type 0} {P : B → Type 0} (f : A → B) {xs : List A} → All (λ x. P (f x)) xs → All P (map f xs)
 all_map f All.nil = All.nil

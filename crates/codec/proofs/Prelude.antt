@@ -32,9 +32,11 @@ came_of f back same a e = sym (same a) ∙ ap back e
 
 pub is_true : (t : Bool) → T t → t ≡ true
 is_true true h = refl
+is_true false h = elim h [ ]
 
 pub is_false : (t : Bool) → T (not t) → t ≡ false
 is_false false h = refl
+is_false true h = elim h [ ]
 
 pub true_is : {t : Bool} → t ≡ true → T t
 true_is e = rw e tt
@@ -52,12 +54,15 @@ both false false h = (h, h)
 
 pub and_l : (a b : Bool) → T (a && b) → T a
 and_l true b t = tt
+and_l false b t = elim t [ ]
 
 pub and_r : (a b : Bool) → T (a && b) → T b
 and_r true b t = t
+and_r false b t = elim t [ ]
 
 pub and_i : (a b : Bool) → T a → T b → T (a && b)
 and_i true b s t = t
+and_i false b s t = elim s [ ]
 
 pub or_cases : (a b : Bool) → T (a || b) → T a ⊎ T b
 or_cases true b t = inl tt

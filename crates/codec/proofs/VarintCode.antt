@@ -97,15 +97,15 @@ one_in (OneCase.Handle v w) = some (record { offset = v; size = w })
 
 pub varint_said : (o : Option Read) {r : VarintRead} → varint_answer o ≡ r → o ≡ varint_in r
 unfolding varint_answer
-varint_said = came_of varint_answer varint_in (λ o. elim o [ none ↦ refl | some r ↦ refl ])
+varint_said = came_of varint_answer varint_in (λ o. elim o as (λ o. varint_in (varint_answer o) ≡ o) [ none ↦ refl | some r ↦ refl ])
 
 pub handle_said : (o : Option HandleRead) {r : HandleEnum.HandleRead} → handle_answer o ≡ r → o ≡ handle_in r
 unfolding handle_answer
-handle_said = came_of handle_answer handle_in (λ o. elim o [ none ↦ refl | some r ↦ refl ])
+handle_said = came_of handle_answer handle_in (λ o. elim o as (λ o. handle_in (handle_answer o) ≡ o) [ none ↦ refl | some r ↦ refl ])
 
 pub one_said : (o : Option Handle) {r : OneHandle} → one_handle_answer o ≡ r → o ≡ one_in r
 unfolding one_handle_answer
-one_said = came_of one_handle_answer one_in (λ o. elim o [ none ↦ refl | some h ↦ refl ])
+one_said = came_of one_handle_answer one_in (λ o. elim o as (λ o. one_in (one_handle_answer o) ≡ o) [ none ↦ refl | some h ↦ refl ])
 
 pub varint_within : (s : List ℕ) {v n : ℕ} → varint_answer (varint s) ≡ Value v n → n ≤ length s
 varint_within s e = (varint_size_lem s (varint_said _ e)).there

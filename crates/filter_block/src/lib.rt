@@ -1,2 +1,4 @@
 // The filter block: made and asked.
+#![tactic(auto)]
+
 pub mod filter_block;

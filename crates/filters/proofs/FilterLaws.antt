@@ -85,13 +85,13 @@ module _ (k : ℕ) where
       let b : Below (8 * length s) (places_of k n x) = rw (← e) (of_below n x l) in
       keys_kept n (raise_all s (places_of k n x)) hs qs (rw all_length e) l (raised_all s qs (places_of k n x) b h)
 
-  keys_raised : (n : ℕ) (s hs : List ℕ) (x : ℕ) → n ≡ 8 * length s → 0 < n → Memᴰ x hs → all_raised (raise_keys k n s hs) (places_of k n x) ≡ true
+  keys_raised : (n x : ℕ) (s hs : List ℕ) → n ≡ 8 * length s → 0 < n → Memᴰ x hs → all_raised (raise_keys k n s hs) (places_of k n x) ≡ true
   unfolding raise_keys
-  keys_raised n s hs x e l (Memᴰ.head {x = y} {xs = more} q) =
+  keys_raised n x s hs e l (Memᴰ.head {x = y} {xs = more} q) =
       let b : Below (8 * length s) (places_of k n x) = rw (← e) (of_below n x l) in
       rw (← q) (keys_kept n (raise_all s (places_of k n x)) more (places_of k n x) (rw all_length e) l (all_raised_lem s (places_of k n x) b))
-  keys_raised n s hs x e l (Memᴰ.tail {x = y} {xs = more} m) =
-      keys_raised n (raise_all s (places_of k n y)) more x (rw all_length e) l m
+  keys_raised n x s hs e l (Memᴰ.tail {x = y} {xs = more} m) =
+      keys_raised n x (raise_all s (places_of k n y)) more (rw all_length e) l m
 
 pub size_eighths : (b : ℕ) → filter_size b ≡ max 8 ((b + 7) / 8)
 unfolding filter_size
@@ -129,7 +129,7 @@ made_may k size hs h m =
     let e : 8 * size ≡ 8 * length s = simp length-replicate in
     let n : length bits ≡ length s = keys_length k (8 * size) s hs in
     split 0 size
-    (λ l. may bits k h (rw (n, ← e) (keys_raised k (8 * size) s hs h e (omega arith) m)))
+    (λ l. may bits k h (rw (n, ← e) (keys_raised k (8 * size) h s hs e (omega arith) m)))
     (λ l. may_few (bits ++ (k ∷ [])) h (omega (arith, length-append bits (k ∷ []))))
 
 -- no hashes make no filter

@@ -1,2 +1,4 @@
 // The full check of a table.
+#![tactic(auto)]
+
 pub mod check;

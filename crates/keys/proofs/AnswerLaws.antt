@@ -28,7 +28,7 @@ order_in Greater = Ordering.gt
 
 pub order_said : (o : Ordering) {r : OrderingEnum.Ordering} → order_answer o ≡ r → o ≡ order_in r
 unfolding order_answer
-order_said = came_of order_answer order_in (λ o. elim o [ Ordering.lt ↦ refl | Ordering.eq ↦ refl | Ordering.gt ↦ refl ])
+order_said = came_of order_answer order_in (λ o. elim o as (λ o. order_in (order_answer o) ≡ o) [ Ordering.lt ↦ refl | Ordering.eq ↦ refl | Ordering.gt ↦ refl ])
 
 says_less_lem : (o : Ordering) → says_less (order_answer o) ≡ is_less o
 unfolding order_answer

@@ -64,6 +64,7 @@ first_of_next t ix nx cs (Laid.cons _ (Laid.cons s l)) = go (entries_at t (handl
   where
     go : (es : List Entry) → T (enough data_block (pairs_of es)) → say_at nx.start (handle_of nx.value).offset (first_in es) ≡ found_or (head? (map (found_in nx) es ++ read_blocks t cs))
     go (e ∷ es) u = refl
+    go [] u = elim u [ ]
 
 module _ (t : List ℕ) {offset size : ℕ} (i : Indexed t offset size) (start : ℕ) where
   abbrev h : Handle

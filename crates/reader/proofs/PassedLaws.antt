@@ -11,7 +11,7 @@ use borrow.Author.Tests.{leb-true}
 use Rattle.codec.specs.Varint.{Handle, one_handle}
 use Rattle.codec.proofs.Prelude.{is_true, and_r}
 use Rattle.codec.proofs.Lists.{All, all_imp}
-use Rattle.blocks.specs.Block.{Pair, Entry, pairs_of}
+use Rattle.blocks.specs.Block.{Pair, Entry, pairs_of, last_key_of}
 use Rattle.codec.specs.Limits.{within}
 use Rattle.blocks.specs.Formed.{data_block, index_block, is_handle, entry_fits, all}
 use Rattle.blocks.specs.Search.{readable, in_order}
@@ -70,7 +70,7 @@ unfolding data_blocks_of
 blocks_read t f before [] All.nil p = All.nil
 blocks_read t f before (ix ∷ ixs) (All.cons one ones) p =
     passing _ _ p λ ps read p.
-    All.cons (block_reads t f before ix one read) (blocks_read t f _ ixs ones p)
+    All.cons (block_reads t f before ix one read) (blocks_read t f (some (record { index_key = ix.key; last_key = last_key_of [] ps })) ixs ones p)
 
 -- ---- the index
 

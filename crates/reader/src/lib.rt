@@ -1,2 +1,4 @@
 // Reads of a table: seek, lookup, step, and the value of an entry.
+#![tactic(auto)]
+
 pub mod table_reader;

@@ -2,6 +2,8 @@
 // those of `cases` and `original` are commands on keys, filters, blocks and tables, those of `builder` calls of the table builder.
 // Each line is a command and its fields, and each answer is a line. The sections are made by tools/replay_list.py,
 // tools/original_list and tools/rebuild_list.py.
+#![tactic(auto)]
+
 ghost use Rattle.std.specs.Prelude.{◌<◌};
 
 mod blocks;

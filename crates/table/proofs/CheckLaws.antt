@@ -109,7 +109,8 @@ module _ (o : Options) where
       g.follows g.rising g.indexed lets.0 in
       let assoc : (pre ++ framed s) ++ rest ≡ t = simp append_assoc in
       let ih = data_chunks (pre ++ framed s) post f (some (edge c)) cs good.1 (rw (← end_of_lem o pre c) lets.1) (rw assoc small') room in
-      rw (regroup, here, end_of_lem o pre c, ← assoc) ih
+      ap (λ (u : List ℕ). Table.data_blocks_of u f before (index_pairs o (length pre) (c ∷ cs))) regroup
+      ∙ rw (here, end_of_lem o pre c) (ap (λ (u : List ℕ). Table.data_blocks_of u f (some (edge c)) (index_pairs o (length (pre ++ framed s)) cs)) (sym assoc) ∙ ih)
 
 -- ---- index and metaindex
 

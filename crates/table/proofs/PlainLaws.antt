@@ -51,7 +51,7 @@ founds_back : (ix : Entry) (i n : ℕ) (before : List ℕ) (at : ℕ) (xs : List
 unfolding planned pair_of
 founds_back ix i n before at [] All.nil = refl
 founds_back ix i n before at (a ∷ more) (All.cons f fs) =
-    ap₂ ◌∷◌ (addition_back a f _ refl refl) (founds_back ix i _ _ _ more fs)
+    ap₂ ◌∷◌ (addition_back a f _ refl refl) (founds_back ix i (since i n) (key_of a) (at + length (entry_bytes (sharing i n before (key_of a)) (pair_of a))) more fs)
 
 founds_of_lem : (t : List ℕ) (ix : Entry) (h : Handle) (es : List Entry) → handle_of ix.value ≡ h → entries_at t h ≡ es → founds_of t ix ≡ map (found_in ix) es
 unfolding founds_of

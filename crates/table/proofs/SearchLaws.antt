@@ -237,6 +237,7 @@ for_by_reach k (x ∷ xs) (Pairs.cons q qs) = ⊎_elim yes' (no' (for_by_reach k
       where
         twice : (b : Bool) → T (not (not b)) → T b
         twice true t = tt
+        twice false t = elim t [ ]
 
 -- so lookup is a seek, and a look at the word
 pub lookup_by_seek : (t : List ℕ) (k : Point) → Passed t → lookup_of t k ≡ only_word k (seek_of t k)

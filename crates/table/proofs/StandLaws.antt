@@ -153,10 +153,12 @@ module _ (t : List ℕ) (f : Option (List ℕ)) where
   unfolding first_follows
   beyond p k (e ∷ es) h s (Pairs.cons q qs) =
       let up : k ≺ point_of e.key = ≼-≺ h (follows_tells p e.key s).above in All.cons up (all_imp (λ x r. ≺-trans up r) q)
+  beyond p k [] h s _ = elim s [ ]
 
   between : {k m : Point} (es : List Entry) → T (enough data_block (pairs_of es)) → All (λ (x : Entry). k ≺ point_of x.key) es → All (λ (x : Entry). point_of x.key ≼ m) es → k ≺ m
   unfolding enough
   between (e ∷ es) s a b = ≺-≼ (all_head a) (all_head b)
+  between {k = k} {m = m} [] s a b = elim s [ ]
 
   block_within : {p : Option Edge} {ix : Entry} → BlockStands t f p ix → All (λ (x : Found). point_of x.key ≼ point_of ix.key) (founds_of t ix)
   unfolding founds_of
@@ -212,10 +214,12 @@ next_apart : (p : Edge) (nx : Entry) (es : List Entry) (rest : List Found) → T
 unfolding first_follows
 next_apart p nx (e ∷ es) rest s q =
     ⊎_map (λ r. r) (λ r. all_imp (λ x h. less_up_to_trans bytes_laws r (≼-word h)) (first_least q)) (follows_tells p e.key s).apart
+next_apart p nx [] rest s q = elim s [ ]
 
 at_last : (ix : Entry) (es : List Entry) → T (enough data_block (pairs_of es)) → by_point (point_of ix.key) (point_of (last_key_of [] (pairs_of es))) ≡ Ordering.eq → (x : Found) × Memᴰ x (map (found_in ix) es) × (point_of ix.key ≼ point_of x.key)
 unfolding enough
 at_last ix (e ∷ es) s h = let r = last_stands e es in (found_in ix r.0, Memᴰ.map (found_in ix) r.1, rw r.2 (same_up_to point_laws h))
+at_last ix [] s h = elim s [ ]
 
 block_apart : (t : List ℕ) (f : Option (List ℕ)) (ix : Entry) (ixs : List Entry) → T (enough data_block (pairs_in t ix)) → Standing t f (some (edge_of t ix)) ixs
     → ((x : Found) × Memᴰ x (founds_of t ix) × (point_of ix.key ≼ point_of x.key)) ⊎ All (λ (x : Found). Less by_bytes (user_of ix.key) (user_of x.key)) (read_blocks t ixs)

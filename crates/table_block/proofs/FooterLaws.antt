@@ -115,4 +115,4 @@ footer_in (FooterCase.Footer a b c d) = pass (record { metaindex = record { offs
 
 pub footer_said : (f : Checked Footer) {r : FooterRead} → footer_answer f ≡ r → f ≡ footer_in r
 unfolding footer_answer
-footer_said = came_of footer_answer footer_in (λ f. elim f [ pass f ↦ refl | refuse n ↦ refl ])
+footer_said = came_of footer_answer footer_in (λ f. elim f as (λ f'. footer_in (footer_answer f') ≡ f') [ pass f ↦ refl | refuse n ↦ refl ])

@@ -1,6 +1,8 @@
 // A tour of the library: builds a table of words and their cells in two editions of a code, checks it, looks words up, walks over
 // it, and damages it in three ways. Each line of standard input is an entry (`+ word edition cells`; without cells it is a
 // deletion) or a question (`? word edition`).
+#![tactic(auto)]
+
 mod building;
 mod damage;
 mod list;

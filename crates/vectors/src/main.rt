@@ -1,4 +1,6 @@
 // Runs published vectors and worked cases through the code and writes what it answers, a line each.
+#![tactic(auto)]
+
 use codec::blockhandle::{HandleRead, OneHandle};
 use codec::fixed::NumberRead;
 use codec::put::Written;
