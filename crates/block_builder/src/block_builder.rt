@@ -21,7 +21,7 @@ const MOST: usize = 18446744073709551615;
 // The interval of restarts; the entry bytes, the restarts and the entries since the last restart; the last key, which is the
 // first len bytes of last. The library for C hands it out as it is.
 #[repr(C)]
-#[derive(Drop)]
+#[derive(Clone, Copy)]
 pub struct BlockBuilder {
     pub interval: usize,
     pub bytes: usize,
@@ -32,21 +32,21 @@ pub struct BlockBuilder {
 }
 
 // The builder with one entry more, or as it was where that cannot be counted.
-#[derive(Drop)]
+#[derive(Clone, Copy)]
 pub struct Counted {
     pub fits: bool,
     pub block: BlockBuilder,
 }
 
 // The builder after an entry was added, or as it was where it does not fit.
-#[derive(Drop)]
+#[derive(Clone, Copy)]
 pub struct Added {
     pub fits: bool,
     pub block: BlockBuilder,
 }
 
 // What an entry shares and the counts with it, or that it cannot be counted.
-#[derive(Drop)]
+#[derive(Clone, Copy)]
 enum Plan {
     Entry {
         shared: usize,

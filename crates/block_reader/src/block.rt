@@ -17,7 +17,7 @@ use codec::varint::VarintRead;
 use keys::cmp::is_less;
 use keys::key_types::cmp_target;
 
-#[derive(Drop)]
+#[derive(Clone, Copy)]
 pub enum Kind {
     Data,
     Index,
@@ -26,7 +26,7 @@ pub enum Kind {
 
 // An entry that starts the rest of a block: how many bytes its key shares with the key before, how many it has, where in the
 // rest its value starts and how many bytes that has.
-#[derive(Drop)]
+#[derive(Clone, Copy)]
 pub enum EntryRead {
     Entry {
         shared: usize,
@@ -39,7 +39,7 @@ pub enum EntryRead {
 
 // An entry of a block: where it starts, how many bytes its key has, where its value starts and how many bytes that has; or
 // none; or that no entry starts at the place given; or that the block is malformed.
-#[derive(Drop)]
+#[derive(Clone, Copy)]
 pub enum Found {
     Entry {
         start: usize,
@@ -53,7 +53,7 @@ pub enum Found {
 }
 
 // The numbers that start an entry, and how many bytes they take.
-#[derive(Drop)]
+#[derive(Clone, Copy)]
 enum HeadRead {
     Head {
         shared: usize,
@@ -65,21 +65,21 @@ enum HeadRead {
 }
 
 // The key of an entry that shares nothing: where it stands and how many bytes it has.
-#[derive(Drop)]
+#[derive(Clone, Copy)]
 enum FreshRead {
     Key { key_at: usize, key_len: usize },
     Bad,
 }
 
 // Where the restarts start, which is where the entries end, and how many there are.
-#[derive(Drop)]
+#[derive(Clone, Copy)]
 pub enum RowsRead {
     Rows { end: usize, count: usize },
     Bad,
 }
 
 // Where the check goes on after an entry: how many bytes the key has, the place, and the number of the next restart.
-#[derive(Drop)]
+#[derive(Clone, Copy)]
 enum Passed {
     On {
         key_len: usize,
@@ -90,14 +90,14 @@ enum Passed {
 }
 
 // Which entry a place stands for: the one that starts there, or the one after it.
-#[derive(Drop)]
+#[derive(Clone, Copy)]
 pub enum Which {
     Here,
     After,
 }
 
 // Whether a restart's entry is below a target, and where it starts.
-#[derive(Drop)]
+#[derive(Clone, Copy)]
 enum Probe {
     Below(usize),
     Not,

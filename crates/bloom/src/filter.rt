@@ -10,7 +10,7 @@ ghost use Rattle.filters.specs.FilterCount.{filter_bytes_of};
 use codec::put::Written;
 
 // The filter choice: none, or so many bits per key.
-#[derive(Drop)]
+#[derive(Clone, Copy)]
 pub enum Filter {
     None,
     Bits(u32),

@@ -21,7 +21,7 @@ use table_write::table_write::{
 };
 
 // Restart interval, block size and filter choice.
-#[derive(Drop)]
+#[derive(Clone, Copy)]
 pub struct Options {
     pub block_size: usize,
     pub interval: usize,
@@ -30,7 +30,7 @@ pub struct Options {
 
 // The lengths of the seven runs. The library for C hands them out as they are.
 #[repr(C)]
-#[derive(Drop)]
+#[derive(Clone, Copy)]
 pub struct Lengths {
     pub out: usize,
     pub index: usize,
@@ -43,7 +43,7 @@ pub struct Lengths {
 
 // The options and the runs' lengths given at start; the bytes written; the open data block and the index block; the bytes of
 // the filters made and their number; the hashes that wait; whether the table is finished.
-#[derive(Drop)]
+#[derive(Clone, Copy)]
 pub struct Builder {
     pub options: Options,
     pub lengths: Lengths,
@@ -57,35 +57,35 @@ pub struct Builder {
 }
 
 // What start and add answer: that it is done, or the refusal's number.
-#[derive(Drop)]
+#[derive(Clone, Copy)]
 pub enum Answer {
     Ok,
     Refused(u32),
 }
 
 // Start's answer, and the state to go on with.
-#[derive(Drop)]
+#[derive(Clone, Copy)]
 pub struct Started {
     pub answer: Answer,
     pub state: Builder,
 }
 
 // Add's answer, and the state to go on with.
-#[derive(Drop)]
+#[derive(Clone, Copy)]
 pub struct Added {
     pub answer: Answer,
     pub state: Builder,
 }
 
 // What finish answers: the table's size, or the refusal's number.
-#[derive(Drop)]
+#[derive(Clone, Copy)]
 pub enum Outcome {
     Size(usize),
     Refused(u32),
 }
 
 // Finish's answer, and the state after it.
-#[derive(Drop)]
+#[derive(Clone, Copy)]
 pub struct Finished {
     pub answer: Outcome,
     pub state: Builder,
@@ -310,7 +310,7 @@ fn is_small(s: Builder) -> bool
 }
 
 // The filters' bytes, how many there are, and how many hashes wait.
-#[derive(Drop)]
+#[derive(Clone, Copy)]
 struct FilterSizes {
     bytes: usize,
     made: usize,
@@ -356,7 +356,7 @@ fn last_made(choice: Filter, f: FilterSizes) -> FilterSizes
 }
 
 // What the open block is when it is closed, in numbers: where it ends, how many bytes its handle has, and the filters then.
-#[derive(Drop)]
+#[derive(Clone, Copy)]
 struct Close {
     end: usize,
     handle: usize,
@@ -464,7 +464,7 @@ fn end_size(filter: Filter, written: usize, f: FilterSizes, index: usize) -> usi
 }
 
 // What the size of the finished table is reckoned from: the bytes of the data blocks, the index block's size, and the filters.
-#[derive(Drop)]
+#[derive(Clone, Copy)]
 struct Sizes {
     written: usize,
     index: usize,
@@ -617,7 +617,7 @@ fn has_room(s: Builder, l: Lengths) -> bool
 
 // What is decided of an addition: 0 or the refusal's number, whether there is a cut, the open block and how many hashes wait
 // after it, and the state with the entry.
-#[derive(Drop)]
+#[derive(Clone, Copy)]
 struct Plan {
     answer: u32,
     cut: bool,
@@ -685,7 +685,7 @@ fn put_key(key: &mut [u8], word: &[u8], edition: u64, kind: u8) -> usize
 
 // What is decided of a finish: 0 or the refusal's number, the table's size, the state with the last block closed, and the
 // filters with the last one made.
-#[derive(Drop)]
+#[derive(Clone, Copy)]
 struct Ending {
     answer: u32,
     size: usize,

@@ -8,7 +8,7 @@ use crate::put::Written;
 use crate::varint::VarintRead;
 
 // What decoding finds: the handle and how many bytes it took, or none.
-#[derive(Drop)]
+#[derive(Clone, Copy)]
 pub enum HandleRead {
     Handle {
         offset: usize,
@@ -19,7 +19,7 @@ pub enum HandleRead {
 }
 
 // One handle and nothing more, or none.
-#[derive(Drop)]
+#[derive(Clone, Copy)]
 pub enum OneHandle {
     Handle { offset: usize, size: usize },
     None,

@@ -7,7 +7,7 @@ ghost use Rattle.codec.specs.Put.{Wrote};
 use crate::put::Written;
 
 // What reading a number at a place finds.
-#[derive(Drop)]
+#[derive(Clone, Copy)]
 pub enum NumberRead {
     Value(u64),
     Bad,

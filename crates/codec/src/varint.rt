@@ -8,7 +8,7 @@ ghost use Rattle.codec.specs.Put.{Wrote};
 use crate::put::Written;
 
 // What reading finds: the number and how many bytes it took, or none.
-#[derive(Drop)]
+#[derive(Clone, Copy)]
 pub enum VarintRead {
     Value { value: usize, len: usize },
     Bad,

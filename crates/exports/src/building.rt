@@ -11,7 +11,7 @@ use pieces::numbers::number_if;
 // A table being built, the builder's state in numbers: filter is 0 for none, else Bloom with so many bits per key; finished is
 // 0 until finish.
 #[repr(C)]
-#[derive(Drop)]
+#[derive(Clone, Copy)]
 pub struct SalevoniState {
     pub block_size: usize,
     pub interval: usize,
@@ -30,7 +30,7 @@ pub struct SalevoniState {
 // What a call of the builder answers, 0 or the refusal's number; the table's size after finish, else 0; and the state to go on
 // with.
 #[repr(C)]
-#[derive(Drop)]
+#[derive(Clone, Copy)]
 pub struct SalevoniBuilt {
     pub answer: u32,
     pub size: usize,

@@ -9,7 +9,7 @@ use reader::table_reader::{Entry, Found, Place, Sought};
 // starts in its data block; how many bytes its key has; where in the table its value starts and how many bytes that has. All
 // of them are 0 without an entry.
 #[repr(C)]
-#[derive(Drop)]
+#[derive(Clone, Copy)]
 pub struct SalevoniEntry {
     pub answer: u32,
     pub index: usize,

@@ -93,7 +93,7 @@ pub fn is_formed(block: &[u8]) -> bool
 }
 
 // What making filters answers: how many bytes they have now and how many there are, or that there is no room.
-#[derive(Drop)]
+#[derive(Clone, Copy)]
 pub enum Made {
     Filters { bytes: usize, made: usize },
     NoRoom,

@@ -19,28 +19,28 @@ use codec::blockhandle::OneHandle;
 use table_block::footer::FooterRead;
 
 // The full check's answer: that the table passes, or the refusal's number.
-#[derive(Drop)]
+#[derive(Clone, Copy)]
 pub enum Verdict {
     Pass,
     Refused(u32),
 }
 
 // Whether keys are in order; if so, how many bytes the last one has.
-#[derive(Drop)]
+#[derive(Clone, Copy)]
 enum Rising {
     Yes(usize),
     No,
 }
 
 // A data block that passes, with how many bytes its last key has, or the refusal's number.
-#[derive(Drop)]
+#[derive(Clone, Copy)]
 enum DataRead {
     Pass(usize),
     Refused(u32),
 }
 
 // Where a block stands.
-#[derive(Drop)]
+#[derive(Clone, Copy)]
 struct Place {
     offset: usize,
     size: usize,

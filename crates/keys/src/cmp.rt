@@ -10,7 +10,7 @@ ghost use Rattle.keys.specs.Plan.{big_of, Raisable, raised, RaisesFirst, RaisesL
 use codec::limits::least;
 use codec::put::Written;
 
-#[derive(Drop)]
+#[derive(Clone, Copy)]
 pub enum Ordering {
     Less,
     Equal,
@@ -18,14 +18,14 @@ pub enum Ordering {
 }
 
 // A place in a key, or none.
-#[derive(Drop)]
+#[derive(Clone, Copy)]
 enum Found {
     At(usize),
     Nothing,
 }
 
 // A separator of a key a: a itself; a and then a 0 byte; the first len bytes of a, that at a place raised by one.
-#[derive(Drop)]
+#[derive(Clone, Copy)]
 enum Sep {
     Whole,
     Longer,

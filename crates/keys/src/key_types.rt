@@ -10,21 +10,21 @@ use crate::cmp::Ordering;
 use codec::fixed::NumberRead;
 use codec::put::Written;
 
-#[derive(Drop)]
+#[derive(Clone, Copy)]
 pub enum ValueType {
     TypeDeletion,
     TypeValue,
 }
 
 // A tag's parts.
-#[derive(Drop)]
+#[derive(Clone, Copy)]
 pub struct Tag {
     pub kind: ValueType,
     pub sequence: u64,
 }
 
 // What parsing a key finds: how many bytes its user key has, its sequence and its kind.
-#[derive(Drop)]
+#[derive(Clone, Copy)]
 pub enum KeyRead {
     Key {
         user_len: usize,

@@ -14,7 +14,7 @@ use block_reader::block::{Found, Kind, Which};
 
 // 0 and the block with an entry more, or 2 and the block as it was where the entry does not fit.
 #[repr(C)]
-#[derive(Drop)]
+#[derive(Clone, Copy)]
 pub struct SalevoniBlockAdded {
     pub answer: u32,
     pub block: BlockBuilder,
@@ -24,7 +24,7 @@ pub struct SalevoniBlockAdded {
 // entry: where it starts, how many bytes its key has, where in the block its value starts and how many bytes that has. All of
 // them are 0 without an entry.
 #[repr(C)]
-#[derive(Drop)]
+#[derive(Clone, Copy)]
 pub struct SalevoniRow {
     pub answer: u32,
     pub start: usize,

@@ -12,7 +12,7 @@ use filter_block::filter_block::Made;
 
 // 0 and how many bytes the filters have now and how many there are, or 2 and zeros without room.
 #[repr(C)]
-#[derive(Drop)]
+#[derive(Clone, Copy)]
 pub struct SalevoniFilters {
     pub answer: u32,
     pub bytes: usize,

@@ -6,7 +6,7 @@ use codec::put::Written;
 
 // 0 and the size of what was written, or 2 where there is no room for it.
 #[repr(C)]
-#[derive(Drop)]
+#[derive(Clone, Copy)]
 pub struct SalevoniSize {
     pub answer: u32,
     pub size: usize,

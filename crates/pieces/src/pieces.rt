@@ -12,7 +12,7 @@ use table_block::footer::FooterRead;
 
 // A table's footer: 0 and where the metaindex and the index stand, or the refusal's number and zeros.
 #[repr(C)]
-#[derive(Drop)]
+#[derive(Clone, Copy)]
 pub struct SalevoniFooter {
     pub answer: u32,
     pub meta_offset: usize,

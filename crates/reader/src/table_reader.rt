@@ -17,14 +17,14 @@ use table_block::footer;
 use table_block::footer::FooterRead;
 
 // Where an entry stands: where its index entry starts in the index block, and where it starts in its data block.
-#[derive(Drop)]
+#[derive(Clone, Copy)]
 pub struct Place {
     pub index: usize,
     pub entry: usize,
 }
 
 // An entry of a table: its place, how many bytes its key has, where in the table its value starts and how many bytes that has.
-#[derive(Drop)]
+#[derive(Clone, Copy)]
 pub struct Entry {
     pub place: Place,
     pub key_len: usize,
@@ -33,7 +33,7 @@ pub struct Entry {
 }
 
 // What a seek or a step answers.
-#[derive(Drop)]
+#[derive(Clone, Copy)]
 pub enum Sought {
     Entry(Entry),
     None,
@@ -41,7 +41,7 @@ pub enum Sought {
 }
 
 // What a lookup answers.
-#[derive(Drop)]
+#[derive(Clone, Copy)]
 pub enum Found {
     Entry(Entry),
     Deleted(Entry),
@@ -50,7 +50,7 @@ pub enum Found {
 }
 
 // Whether a block may hold a word, or a refusal.
-#[derive(Drop)]
+#[derive(Clone, Copy)]
 enum Held {
     May,
     Not,
@@ -58,7 +58,7 @@ enum Held {
 }
 
 // Where the block of an index entry stands; or that there is none, that no index entry starts at the place, or a refusal.
-#[derive(Drop)]
+#[derive(Clone, Copy)]
 enum Located {
     Block {
         start: usize,
@@ -72,7 +72,7 @@ enum Located {
 
 // What is asked of a block: its first entry, the entry at a place or the one after it, or the first that is not below a target,
 // given by its edition. The word of a target is lent beside it.
-#[derive(Drop)]
+#[derive(Clone, Copy)]
 enum Ask {
     First,
     Place(usize, Which),

@@ -7,7 +7,7 @@ use block_reader::block as rows;
 use block_reader::block::{EntryRead, Found, Kind, Which};
 use codec::put::Written;
 
-#[derive(Drop)]
+#[derive(Clone, Copy)]
 struct Grown {
     next: usize,
     block: BlockBuilder,

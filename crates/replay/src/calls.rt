@@ -14,7 +14,7 @@ use codec::fixed::NumberRead;
 
 // How long the runs are in use, those of bytes and those of numbers, and the checksums of what is in use; the lengths of the
 // parts lent to calls; the builder's state, and one kept to come back to.
-#[derive(Drop)]
+#[derive(Clone, Copy)]
 pub struct Rig {
     bytes: usize,
     numbers: usize,
@@ -99,7 +99,7 @@ fn within(rig: Rig) -> Lengths {
 }
 
 // The number of up to 8 bytes at a place, least first.
-#[derive(Drop)]
+#[derive(Clone, Copy)]
 struct Eight {
     value: u64,
     next: usize,
@@ -141,7 +141,7 @@ fn lengths(s: &[u8], at: usize) -> Lengths {
 }
 
 // Options, and the place after them.
-#[derive(Drop)]
+#[derive(Clone, Copy)]
 struct Chosen {
     options: Options,
     next: usize,
@@ -164,7 +164,7 @@ fn options(s: &[u8], at: usize) -> Chosen {
 }
 
 // What a call answered: 0 or the refusal's number, a finished table's size, and the state.
-#[derive(Drop)]
+#[derive(Clone, Copy)]
 struct Done {
     refused: u32,
     size: usize,
@@ -229,7 +229,7 @@ fn nothing(b: Builder) -> Done {
 }
 
 // An addition: how long its word and its value are, its edition and its kind.
-#[derive(Drop)]
+#[derive(Clone, Copy)]
 struct Addition {
     word: usize,
     edition: u64,

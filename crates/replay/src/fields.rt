@@ -2,14 +2,14 @@
 ghost use Rattle.std.specs.Prelude.{◌≤◌, ◌<◌};
 
 // A number, and the place after it and its blank.
-#[derive(Drop)]
+#[derive(Clone, Copy)]
 pub struct Decimal {
     pub value: usize,
     pub next: usize,
 }
 
 // How many bytes a field had, and the place after it and its blank.
-#[derive(Drop)]
+#[derive(Clone, Copy)]
 pub struct Taken {
     pub len: usize,
     pub next: usize,
@@ -97,7 +97,7 @@ fn fill(out: &mut [u8], from: usize, times: usize, b: u8) -> usize {
     i
 }
 
-#[derive(Drop)]
+#[derive(Clone, Copy)]
 struct Step {
     more: bool,
     next: usize,

@@ -31,13 +31,13 @@ fn probes(s: &[u8], at: usize) {
     show::number64(one::probe_count((bits.value % 4294967296) as u32) as u64);
 }
 
-#[derive(Drop)]
+#[derive(Clone, Copy)]
 struct Listed {
     count: usize,
     all: [u32; 512],
 }
 
-#[derive(Drop)]
+#[derive(Clone, Copy)]
 struct OneHash {
     hash: u32,
     next: usize,

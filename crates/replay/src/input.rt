@@ -3,7 +3,7 @@ use crate::fields::front;
 use crate::show;
 
 // Where the line in turn starts and ends, and how many bytes the run holds. A line that ends where it starts is none.
-#[derive(Drop)]
+#[derive(Clone, Copy)]
 pub struct Held {
     pub at: usize,
     pub end: usize,

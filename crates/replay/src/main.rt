@@ -29,7 +29,7 @@ const CASES: u8 = 1;
 const CALLS: u8 = 2;
 
 // What the section's lines are, and how many bytes are loaded.
-#[derive(Drop)]
+#[derive(Clone, Copy)]
 struct Section {
     kind: u8,
     len: usize,

@@ -8,7 +8,7 @@ pub const BYTES: usize = 140000;
 pub const NUMBERS: usize = 35000;
 
 // A checksum of each run.
-#[derive(Drop)]
+#[derive(Clone, Copy)]
 pub struct Seven {
     pub out: u32,
     pub index: u32,

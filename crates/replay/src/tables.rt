@@ -301,7 +301,7 @@ fn tried(t: &[u8], word: &[u8], edition: u64) {
 }
 
 // A part of a table, and whether it is a block that is sealed anew after a change.
-#[derive(Drop)]
+#[derive(Clone, Copy)]
 struct Part {
     at: usize,
     size: usize,

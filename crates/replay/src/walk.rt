@@ -2,7 +2,7 @@
 use crate::{blocks, finished, show, tables};
 
 // What is walked over, and how it is told: a block or a table by its first entries, a finished table by one checksum of all.
-#[derive(Drop)]
+#[derive(Clone, Copy)]
 pub enum Over {
     Block,
     Table,
@@ -10,7 +10,7 @@ pub enum Over {
 }
 
 // Whether there is more to walk, the place, and the checksum of what was met. A place in a block has no index entry.
-#[derive(Drop)]
+#[derive(Clone, Copy)]
 pub struct Walked {
     pub more: bool,
     pub index: usize,

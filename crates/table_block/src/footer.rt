@@ -11,7 +11,7 @@ use codec::fixed::NumberRead;
 pub const TABLE_LIMIT: usize = 16777216;
 
 // What decoding a table's footer finds: where the metaindex and the index stand, or the refusal's number.
-#[derive(Drop)]
+#[derive(Clone, Copy)]
 pub enum FooterRead {
     Footer {
         meta_offset: usize,

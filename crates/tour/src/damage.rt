@@ -41,7 +41,7 @@ fn cut(table: &[u8], size: usize) {
 }
 
 // Where a block stands; of no bytes where there is none.
-#[derive(Drop)]
+#[derive(Clone, Copy)]
 struct Part {
     at: usize,
     size: usize,

@@ -71,7 +71,7 @@ fn entry(t: &[u8], key: &[u8], e: Entry) {
 }
 
 // Where a walk stands, and whether there is more of it.
-#[derive(Drop)]
+#[derive(Clone, Copy)]
 struct Walked {
     more: bool,
     index: usize,
