@@ -165,8 +165,8 @@ point_same a = rw (bytes_same a.word, compare_same a.edition)
 
 pub is_eq_eq : (o : Ordering) → T (compare_is_eq o) → o ≡ Ordering.eq
 is_eq_eq Ordering.eq t = refl
-is_eq_eq Prim.Native.Nat.lt t = elim t [ ]
-is_eq_eq Prim.Native.Nat.gt t = elim t [ ]
+is_eq_eq Ordering.lt t = elim t [ ]
+is_eq_eq Ordering.gt t = elim t [ ]
 
 -- ---- an order by a comparison, as a proposition whose two sides antt can infer
 
@@ -182,36 +182,36 @@ pub record UpTo {A : Type 0} (by : A → A → Ordering) (a b : A) : Type 0 wher
 
 less_less : (o p q : Ordering) → Joins o p q → T (is_less o) → T (is_less p) → T (is_less q)
 less_less Ordering.lt Ordering.lt q j s t = rw j tt
-less_less Prim.Native.Nat.lt Prim.Native.Nat.eq q j s t = elim t [ ]
-less_less Prim.Native.Nat.lt Prim.Native.Nat.gt q j s t = elim t [ ]
-less_less Prim.Native.Nat.eq p q j s t = elim s [ ]
-less_less Prim.Native.Nat.gt p q j s t = elim s [ ]
+less_less Ordering.lt Ordering.eq q j s t = elim t [ ]
+less_less Ordering.lt Ordering.gt q j s t = elim t [ ]
+less_less Ordering.eq p q j s t = elim s [ ]
+less_less Ordering.gt p q j s t = elim s [ ]
 
 less_up_to' : (o p q : Ordering) → Joins o p q → T (is_less o) → T (not (is_less (turned p))) → T (is_less q)
 less_up_to' Ordering.lt Ordering.lt q j s t = rw j tt
 less_up_to' Ordering.lt Ordering.eq q j s t = rw j tt
-less_up_to' Prim.Native.Nat.lt Prim.Native.Nat.gt q j s t = elim t [ ]
-less_up_to' Prim.Native.Nat.eq p q j s t = elim s [ ]
-less_up_to' Prim.Native.Nat.gt p q j s t = elim s [ ]
+less_up_to' Ordering.lt Ordering.gt q j s t = elim t [ ]
+less_up_to' Ordering.eq p q j s t = elim s [ ]
+less_up_to' Ordering.gt p q j s t = elim s [ ]
 
 up_to_less : (o p q : Ordering) → Joins o p q → T (not (is_less (turned o))) → T (is_less p) → T (is_less q)
 up_to_less Ordering.lt Ordering.lt q j s t = rw j tt
 up_to_less Ordering.eq p q j s t = rw j t
-up_to_less Prim.Native.Nat.lt Prim.Native.Nat.eq q j s t = elim t [ ]
-up_to_less Prim.Native.Nat.lt Prim.Native.Nat.gt q j s t = elim t [ ]
-up_to_less Prim.Native.Nat.gt p q j s t = elim s [ ]
+up_to_less Ordering.lt Ordering.eq q j s t = elim t [ ]
+up_to_less Ordering.lt Ordering.gt q j s t = elim t [ ]
+up_to_less Ordering.gt p q j s t = elim s [ ]
 
 up_to_up_to : (o p q : Ordering) → Joins o p q → T (not (is_less (turned o))) → T (not (is_less (turned p))) → T (not (is_less (turned q)))
 up_to_up_to Ordering.lt Ordering.lt q j s t = rw j tt
 up_to_up_to Ordering.lt Ordering.eq q j s t = rw j tt
 up_to_up_to Ordering.eq p q j s t = rw j t
-up_to_up_to Prim.Native.Nat.lt Prim.Native.Nat.gt q j s t = elim t [ ]
-up_to_up_to Prim.Native.Nat.gt p q j s t = elim s [ ]
+up_to_up_to Ordering.lt Ordering.gt q j s t = elim t [ ]
+up_to_up_to Ordering.gt p q j s t = elim s [ ]
 
 less_is_up_to : (o : Ordering) → T (is_less o) → T (not (is_less (turned o)))
 less_is_up_to Ordering.lt s = tt
-less_is_up_to Prim.Native.Nat.eq s = elim s [ ]
-less_is_up_to Prim.Native.Nat.gt s = elim s [ ]
+less_is_up_to Ordering.eq s = elim s [ ]
+less_is_up_to Ordering.gt s = elim s [ ]
 
 module _ {A : Type 0} {by : A → A → Ordering} (laws : Lawful by) where
   pub less_trans : {a b c : A} → Less by a b → Less by b c → Less by a c
@@ -323,7 +323,7 @@ edition-≼ {a} {b} u h = record { is = rw (by_edition b a (sym u)) (up_to_compa
 then_not_less : (o p : Ordering) → T (not (is_less (and_then o p))) → T (not (is_less o))
 then_not_less Ordering.eq p t = tt
 then_not_less Ordering.gt p t = tt
-then_not_less Prim.Native.Nat.lt p t = elim t [ ]
+then_not_less Ordering.lt p t = elim t [ ]
 
 pub ≼-word : {a b : Point} → a ≼ b → UpTo by_bytes a.word b.word
 unfolding by_point
