@@ -13,7 +13,7 @@ use Rattle.codec.specs.declared.blockhandle.OneHandle.TheVariants as OneCase
 use Rattle.codec.specs.Answers.{one_handle_answer}
 use Rattle.codec.specs.Bytes.{numbers, same_bytes}
 use Rattle.codec.specs.Maybe.{◌>>=◌, ask}
-use Rattle.codec.specs.Varint.{Handle, one_handle}
+use Rattle.codec.specs.Varint.{one_handle}
 use Rattle.codec.proofs.VarintCode.{one_said}
 use Rattle.codec.proofs.Prelude.{test, split}
 use Rattle.block_reader.specs.declared.block.EntryRead.TheVariants as EntryCase

@@ -14,7 +14,7 @@ use Rattle.codec.specs.Maybe.{first}
 use Rattle.codec.proofs.Lists.{Pairs, all_mem, first_yes, first_no}
 use Rattle.codec.proofs.MaybeLaws.{getting, giving, gets, gives}
 use Rattle.codec.proofs.Prelude.{and_r, is_true, true_is}
-use Rattle.keys.specs.Order.{Point, point_of, by_point, is_less, below}
+use Rattle.keys.specs.Order.{Point, point_of, by_point, is_less}
 use Rattle.keys.proofs.OrderLaws.{◌≺◌}
 use Rattle.block_reader.specs.declared.block.Found.{Found}
 use Rattle.block_reader.specs.declared.block.Found.TheVariants as FoundCase

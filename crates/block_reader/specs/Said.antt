@@ -2,7 +2,6 @@
 use Rattle.std.specs.Prelude.{ℕ, ◌+◌, ◌≤◌, ◌≡◌, Bool, true, false, eqb, leb, length}
 use mathlib.Core.List.{List, [], ◌∷◌, head?}
 use Rattle.std.proofs.Math.Option.{Option, none, some}
-use Rattle.codec.specs.Maybe.{◌>>=◌}
 use Rattle.codec.specs.Put.{put}
 use Rattle.block_reader.specs.declared.block.EntryRead.{EntryRead}
 use Rattle.block_reader.specs.declared.block.EntryRead.TheVariants as EntryCase
