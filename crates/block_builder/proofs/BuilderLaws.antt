@@ -15,7 +15,7 @@ use Rattle.codec.proofs.Prelude.{test, both}
 use Rattle.codec.proofs.PutLaws.{put_length, put_front, put_behind, Kept, kept_same, kept_put, wrote_behind}
 use Rattle.block_builder.specs.declared.block_builder.BlockBuilder.{BlockBuilder}
 use Rattle.block_builder.specs.declared.block_builder.Added.{Added}
-use Rattle.blocks.specs.Block.{Pair, last_key_of, since, since_all, packed, restarts_of, tail_bytes, block_bytes}
+use Rattle.blocks.specs.Block.{Pair, last_key_of, since_all, packed, restarts_of, tail_bytes, block_bytes}
 use Rattle.blocks.specs.Count.{BlockCount, count_of, no_entries, count_entry, count_size}
 use Rattle.block_builder.specs.Builder.{count_in, new_builder, builder_with, builder_after, countable_after, countable, is_restart, next_bytes, next_restart, addable, AddedIs, Counting, Stands}
 use Rattle.blocks.proofs.BuildLaws.{packed_append, packed_one, restarts_append, restarts_one}
