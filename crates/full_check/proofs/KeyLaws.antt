@@ -1,6 +1,6 @@
 -- The keys of a block, one entry at a time: that they rise, and that a filter lets them through.
 use Prim.Native.Nat.{ℕ, ◌<◌}
-use mathlib.Core.Path.{◌≡◌, refl, ap, ◌∙◌}
+use mathlib.Core.Path.{◌≡◌, refl, sym, ap, ◌∙◌}
 use mathlib.Core.Bool.{Bool, true, false, ◌&&◌, not}
 use mathlib.Core.List.{List, [], ◌∷◌}
 use mathlib.Core.Option.{Option, some}
@@ -10,7 +10,7 @@ use lib.ListN.{length, take}
 use borrow.Author.Tests.{ne_eqb}
 use Rattle.codec.specs.declared.blockhandle.OneHandle.TheVariants as OneCase
 use Rattle.codec.specs.Answers.{one_handle_answer}
-use Rattle.codec.specs.Varint.{Handle, one_handle}
+use Rattle.codec.specs.Varint.{one_handle}
 use Rattle.codec.proofs.VarintCode.{one_said}
 use Rattle.codec.proofs.Prelude.{split}
 use Rattle.keys.specs.Order.{user_of, point_of, by_point, bytes_below, below}
@@ -27,6 +27,10 @@ use Rattle.filters.specs.Filter.{hash}
 use Rattle.filters.specs.FilterBlock.{may_match}
 use Rattle.table.specs.Table.{Edge, follows, first_follows, handle_of, less_of}
 use Rattle.full_check.specs.Steps.{after, rises_from, edge_of, ordered, lets}
+
+-- what is said of a key is said of the same key
+pub said_of : {A B : Type 0} (f : A → B) {q k : A} {r b : B} → q ≡ k → r ≡ f q → r ≡ b → f k ≡ b
+said_of f same said is = ap f (sym same) ∙ sym said ∙ is
 
 -- ---- one key after another
 
