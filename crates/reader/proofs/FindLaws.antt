@@ -24,7 +24,7 @@ use Rattle.reader.specs.declared.table_reader.Located.TheVariants as LocatedCase
 use Rattle.reader.specs.declared.table_reader.Sought.{Sought}
 use Rattle.reader.specs.declared.table_reader.Sought.TheVariants as SoughtCase
 use Rattle.reader.specs.Answers.{sought_of}
-use Rattle.reader.specs.Parts.{Indexed, block_at, Sees, say_at, Says, Tells, Split, or_then, OrLater, Is}
+use Rattle.reader.specs.Parts.{Indexed, block_at, Sees, say_at, Says, Tells, or_then, OrLater, Is}
 use Rattle.reader.proofs.AnswerLaws.{tells_refused, tells_none, tells_with}
 use Rattle.reader.proofs.PassedLaws.{passed_opens}
 use Rattle.reader.proofs.LocateLaws.{sees_said}

@@ -15,7 +15,6 @@ use Rattle.codec.specs.Maybe.{first}
 use Rattle.codec.specs.Varint.{Handle}
 use Rattle.codec.proofs.Prelude.{test, is_true, apart}
 use Rattle.keys.specs.Order.{Point, user_of, tag_of, kind_of}
-use Rattle.block_reader.specs.declared.block.Found.{Found}
 use Rattle.blocks.specs.Block.{Entry, pairs_of}
 use Rattle.blocks.specs.Formed.{meta_block}
 use Rattle.blocks.specs.Search.{readable, reaches, seek_in}

@@ -1,0 +1,21 @@
+-- `reader::table_reader::find` meets its contract.
+use mathlib.Core.Path.{◌∙◌}
+use Rattle.reader.proofs.LocateLaws.{sees_placed, sees_refused}
+use Rattle.reader.proofs.FindLaws.{seek_no_place, find_none, find_block}
+use Rattle.reader.proofs.table_reader.find.Goals as goal
+
+pub find_block-here-requires : goal.find_block-here-requires
+find_block-here-requires c = (sees_placed c.find_index.ensures c.in-Block.is, c.find_index.auto.buf ∙ c.requires.1)
+
+pub returns-in-Refused : goal.returns-in-Refused
+returns-in-Refused c = sees_refused c.find_index.ensures c.in-Refused.is (λ never q. absurd (never q))
+
+pub returns-in-None : goal.returns-in-None
+returns-in-None c = find_none _ c.requires.0 _ c.find_index.ensures c.in-None.is
+
+pub returns-in-NoPlace : goal.returns-in-NoPlace
+returns-in-NoPlace c = seek_no_place _ c.requires.0 _ c.find_index.ensures c.in-NoPlace.is (λ never q. absurd (never q))
+
+pub returns-in-Block : goal.returns-in-Block
+returns-in-Block c = let w = c.find_block-here.ensures in
+    find_block _ c.requires.0 _ c.find_index.ensures c.in-Block.is w (c.or_later.ensures w.answer w.shown w.holds w.inside)
