@@ -1,6 +1,6 @@
 -- `table_write::table_write::index_block` meets its contract.
 use mathlib.Core.Path.{refl, sym}
-use lib.ListN.{length-take-le}
+use Rattle.std.proofs.Common.{length-take-le}
 use native.Mathlib.Omega.{arith}
 use Rattle.codec.specs.Varint.{handle_bytes}
 use Rattle.codec.proofs.PutLaws.{front_never, front_put}
