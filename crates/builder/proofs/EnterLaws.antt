@@ -22,7 +22,7 @@ use Rattle.filters.specs.Filter.{hash}
 use Rattle.filters.specs.FilterBlock.{Filters, wait}
 use Rattle.filters.specs.FilterCount.{count_waiting}
 use Rattle.filters.proofs.FilterCountLaws.{wait_append}
-use Rattle.table.specs.Options.{Options, index_interval, Addition}
+use Rattle.table.specs.Options.{Options, Addition}
 use Rattle.table.specs.Build.{Building, key_of, pair_of, written}
 use Rattle.table.specs.Runs.{Runs, filters_now, entries_of, restarts_in, held, between, overlay, overlaid, FitsRoom}
 use Rattle.table.specs.Counts.{Counts, counts_of}

@@ -13,7 +13,6 @@ use Rattle.codec.proofs.Prelude.{test, split, both}
 use Rattle.codec.proofs.VarintLaws.{varint_bytes_length}
 use Rattle.block_builder.specs.declared.block_builder.BlockBuilder.{BlockBuilder}
 use Rattle.block_builder.specs.declared.block_builder.Counted.{Counted}
-use Rattle.blocks.specs.Block.{since}
 use Rattle.blocks.specs.Count.{no_entries, varint_size, count_entry, count_size}
 use Rattle.block_builder.specs.Builder.{count_in, new_builder, builder_with, builder_after, countable, CountedIs}
 use Rattle.block_builder.specs.Plan.{size_with}

@@ -11,7 +11,7 @@ use Rattle.blocks.proofs.CountLaws.{count_none}
 use Rattle.bloom.specs.Choice.{choice_of}
 use Rattle.filters.specs.FilterBlock.{no_filters, wait, made_bytes, starts}
 use Rattle.table.specs.Checked.{Checked, pass, refuse, ◌>>=◌, ask}
-use Rattle.table.specs.Options.{Options, index_interval, options_fit}
+use Rattle.table.specs.Options.{index_interval, options_fit}
 use Rattle.table.specs.Build.{begin, written, index_pairs, filters_of}
 use Rattle.table.specs.Runs.{Runs, filters_now, entries_of, restarts_in, held, between, overlay, overlaid, start_of}
 use Rattle.table.specs.Counts.{no_counts}
