@@ -81,16 +81,14 @@ fn looked_out(f: Found) -> SalevoniEntry
 }
 
 // The full check: 0, or the refusal's number.
-#[unsafe(no_mangle)]
-pub extern "C" fn salevoni_check(table: &[u8]) -> u32
+pub fn salevoni_check(table: &[u8]) -> u32
     ensures { ChecksOut table.now result }
 {
     verdict_number(full_check::check::check(table))
 }
 
 // The least entry that is not below a word and an edition; its key goes to the front of key.
-#[unsafe(no_mangle)]
-pub extern "C" fn salevoni_seek(
+pub fn salevoni_seek(
     table: &[u8],
     word: &[u8],
     edition: u64,
@@ -102,8 +100,7 @@ pub extern "C" fn salevoni_seek(
 }
 
 // The newest entry of a word that is no newer than an edition; its key goes to the front of key.
-#[unsafe(no_mangle)]
-pub extern "C" fn salevoni_lookup(
+pub fn salevoni_lookup(
     table: &[u8],
     word: &[u8],
     edition: u64,
@@ -115,8 +112,7 @@ pub extern "C" fn salevoni_lookup(
 }
 
 // The entry after the one at a place; its key goes to the front of key.
-#[unsafe(no_mangle)]
-pub extern "C" fn salevoni_step(
+pub fn salevoni_step(
     table: &[u8],
     index: usize,
     entry: usize,
