@@ -21,7 +21,19 @@ pub extern "C" fn salevoni_start(
 ) -> SalevoniBuilt
     ensures { StartsOut (record { block_size = block_size; interval = interval; filter = filter_in filter bits }) (seven out.old index.old filters.old restarts.old index_restarts.old offsets.old hashes.old) (seven out.new index.new filters.new restarts.new index_restarts.new offsets.new hashes.new) result }
 {
-    exports::building::salevoni_start(block_size, interval, filter, bits, out, index, filters, restarts, index_restarts, offsets, hashes)
+    exports::building::salevoni_start(
+        block_size,
+        interval,
+        filter,
+        bits,
+        out,
+        index,
+        filters,
+        restarts,
+        index_restarts,
+        offsets,
+        hashes,
+    )
 }
 
 // Adds an entry: a word, its edition and kind, and a value.
@@ -42,7 +54,20 @@ pub extern "C" fn salevoni_add(
 ) -> SalevoniBuilt
     ensures { AddsOut state (seven out.old index.old filters.old restarts.old index_restarts.old offsets.old hashes.old) (seven out.new index.new filters.new restarts.new index_restarts.new offsets.new hashes.new) (record { word = word.entry.now; edition = edition; kind = kind; value = value.now }) result }
 {
-    exports::building::salevoni_add(state, out, index, filters, restarts, index_restarts, offsets, hashes, word, edition, kind, value)
+    exports::building::salevoni_add(
+        state,
+        out,
+        index,
+        filters,
+        restarts,
+        index_restarts,
+        offsets,
+        hashes,
+        word,
+        edition,
+        kind,
+        value,
+    )
 }
 
 // Writes all that is left of the table, which is then the first size bytes of out.
@@ -59,5 +84,14 @@ pub extern "C" fn salevoni_finish(
 ) -> SalevoniBuilt
     ensures { FinishesOut state (seven out.old index.old filters.old restarts.old index_restarts.old offsets.old hashes.old) (seven out.new index.new filters.new restarts.new index_restarts.new offsets.new hashes.new) result }
 {
-    exports::building::salevoni_finish(state, out, index, filters, restarts, index_restarts, offsets, hashes)
+    exports::building::salevoni_finish(
+        state,
+        out,
+        index,
+        filters,
+        restarts,
+        index_restarts,
+        offsets,
+        hashes,
+    )
 }

@@ -113,11 +113,7 @@ pub fn salevoni_block_add(
 }
 
 // Writes the restarts and their count behind the entries; the block is then the first size bytes of out.
-pub fn salevoni_block_finish(
-    block: BlockBuilder,
-    out: &mut [u8],
-    restarts: &[u32],
-) -> SalevoniSize
+pub fn salevoni_block_finish(block: BlockBuilder, out: &mut [u8], restarts: &[u32]) -> SalevoniSize
     ensures { WroteOut out.old block.bytes (tail_bytes (take block.restarts restarts.now)) result out.new }
 {
     size_out(block.finish(out, 0, restarts))
@@ -153,12 +149,7 @@ pub fn salevoni_block_after(block: &[u8], start: usize, key: &mut [u8]) -> Salev
 }
 
 // The first entry of a block that is not below a word and an edition.
-pub fn salevoni_block_seek(
-    block: &[u8],
-    word: &[u8],
-    edition: u64,
-    key: &mut [u8],
-) -> SalevoniRow
+pub fn salevoni_block_seek(block: &[u8], word: &[u8], edition: u64, key: &mut [u8]) -> SalevoniRow
     ensures { SaysOut block.now (seek_in (record { word = word.entry.now; edition = edition })) in_order key.old result key.new }
 {
     row_out(block_reader::block::seek(block, word, edition, key))

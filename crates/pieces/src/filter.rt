@@ -76,11 +76,7 @@ pub fn salevoni_filter_block_add(
 }
 
 // The filter block of filters and their starts.
-pub fn salevoni_filter_block_finish(
-    filters: &[u8],
-    offsets: &[u32],
-    out: &mut [u8],
-) -> SalevoniSize
+pub fn salevoni_filter_block_finish(filters: &[u8], offsets: &[u32], out: &mut [u8]) -> SalevoniSize
     ensures { WroteOut out.old 0 (filter_block_of filters.now offsets.now) result out.new }
 {
     size_out(filter_block::filter_block::finish(out, 0, filters, offsets))

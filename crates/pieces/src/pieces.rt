@@ -64,12 +64,7 @@ pub fn salevoni_mask(crc: u32) -> u32
 }
 
 // The internal key of a word, an edition and a kind.
-pub fn salevoni_internal_key(
-    out: &mut [u8],
-    word: &[u8],
-    edition: u64,
-    kind: u8,
-) -> SalevoniSize
+pub fn salevoni_internal_key(out: &mut [u8], word: &[u8], edition: u64, kind: u8) -> SalevoniSize
     ensures { WroteOut out.old 0 (internal word.now edition kind) result out.new }
 {
     size_out(keys::key_types::build_internal_key(out, 0, word, edition, kind))

@@ -8,9 +8,9 @@ ghost use Rattle.block_reader.specs.Said.{kind_of, at_in, next_in};
 ghost use Rattle.pieces.specs.Numbers.{ToldOut, WroteOut};
 ghost use Rattle.pieces.specs.Blocks.{kind_in, AddsBlock, SaysOut};
 
+use block_builder::block_builder::BlockBuilder;
 use pieces::block::{SalevoniBlockAdded, SalevoniRow};
 use pieces::numbers::SalevoniSize;
-use block_builder::block_builder::BlockBuilder;
 
 // A block of no entries, with a restart every so many.
 #[unsafe(no_mangle)]

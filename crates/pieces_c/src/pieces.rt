@@ -7,8 +7,8 @@ ghost use Rattle.table_block.specs.Answers.{footer_answer};
 ghost use Rattle.pieces.specs.Numbers.{WroteOut};
 ghost use Rattle.pieces.specs.Pieces.{footer_out};
 
-use pieces::pieces::SalevoniFooter;
 use pieces::numbers::SalevoniSize;
+use pieces::pieces::SalevoniFooter;
 
 // The footer of a table.
 #[unsafe(no_mangle)]
