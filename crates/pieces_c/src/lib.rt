@@ -3,4 +3,4 @@
 
 pub mod block;
 pub mod filter;
-pub mod pieces;
+pub mod rest;
