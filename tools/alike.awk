@@ -1,11 +1,11 @@
-# Proofs that are the same but for names and numbers: the file of a function's proof without what it uses and what closes it, and each law of several
-# lines with its statement.
+# Proofs that are the same but for names and numbers, of several lines each: a function's invariants and answers, as one without what they use, and
+# each law with its statement.
 function shape(text,   words, n, i, w, count, number, out) {
     gsub(/[][(){};,.=:]/, " & ", text)
     n = split(text, words, /[ \t\n]+/)
     for (i = 1; i <= n; i++) {
         w = words[i]
-        if (w ~ /[A-Za-z0-9]/ && w !~ /^(let|in|where|record|module|unfolding|unfold|rw|at|simp|omega|arith|search|needs|cc|elim|absurd)$/) {
+        if (w ~ /[A-Za-z0-9]/ && w !~ /^(let|in|where|record|module|unfolding|unfold|rw|at|simp|omega|arith|search|rules|grind|cc|elim|absurd)$/) {
             if (!(w in number)) number[w] = ++count
             w = "#" number[w]
         }
@@ -14,7 +14,7 @@ function shape(text,   words, n, i, w, count, number, out) {
     return out
 }
 function finish(   s) {
-    if (lines > (whole ? 0 : 3)) {
+    if (lines > 3) {
         s = shape(part)
         if (s in first) print place ": the proof of " first[s] " but for names and numbers"
         else first[s] = place
@@ -22,9 +22,17 @@ function finish(   s) {
     part = ""
     lines = 0
 }
-FNR == 1 { finish(); whole = FILENAME ~ /\/Proof\.antt$/; place = FILENAME; closing = 0 }
+FNR == 1 {
+    folder = FILENAME
+    sub(/[^\/]*$/, "", folder)
+    joined = whole && folder == last
+    if (!joined) { finish(); place = FILENAME }
+    whole = FILENAME ~ /\/(Answers|Invariants|Proof)\.antt$/
+    last = folder
+    closing = 0
+}
 /^use / || /^[ \t]*--/ { next }
-whole && /^pub [^ ]*-spec :/ { closing = 1 }
+whole && /^pub [^ ]*_spec :/ { closing = 1 }
 closing { next }
 /^[ \t]*$/ { if (!whole) finish(); next }
 {

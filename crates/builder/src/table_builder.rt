@@ -116,6 +116,7 @@ fn room(n: usize) -> usize
 }
 
 // Whether a filter choice is within the limits.
+#[tactic(auto, unfolding(table::specs::Options::filtering_fits, bloom::specs::Choice::choice_of))]
 fn filter_fits(f: Filter) -> bool
     ensures { result ≡ filtering_fits (choice_of f) }
 {
@@ -126,6 +127,7 @@ fn filter_fits(f: Filter) -> bool
 }
 
 // The empty table's bytes.
+#[tactic(auto, unfolding(table::specs::Options::empty_size, bloom::specs::Choice::choice_of))]
 fn empty_size(f: Filter) -> usize
     ensures { result ≡ empty_size (choice_of f) }
 {

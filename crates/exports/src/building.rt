@@ -165,8 +165,7 @@ fn added_out(before: SalevoniState, x: Added) -> SalevoniBuilt
 }
 
 // Starts a table in seven runs; nothing is written.
-#[unsafe(no_mangle)]
-pub extern "C" fn salevoni_start(
+pub fn salevoni_start(
     block_size: usize,
     interval: usize,
     filter: u32,
@@ -200,8 +199,7 @@ pub extern "C" fn salevoni_start(
 }
 
 // Adds an entry: a word, its edition and kind, and a value.
-#[unsafe(no_mangle)]
-pub extern "C" fn salevoni_add(
+pub fn salevoni_add(
     state: SalevoniState,
     out: &mut [u8],
     index: &mut [u8],
@@ -235,8 +233,7 @@ pub extern "C" fn salevoni_add(
 }
 
 // Writes all that is left of the table, which is then the first size bytes of out.
-#[unsafe(no_mangle)]
-pub extern "C" fn salevoni_finish(
+pub fn salevoni_finish(
     state: SalevoniState,
     out: &mut [u8],
     index: &mut [u8],

@@ -305,6 +305,7 @@ fn data_at(
 }
 
 // The handle of an index value.
+#[tactic(auto, using(crate::proofs::KeyLaws::handle_bad, crate::proofs::KeyLaws::handle_is))]
 fn handle_of(value: &[u8]) -> Place
     ensures { record { offset = result.offset; size = result.size } ≡ handle_of value.now }
 {

@@ -183,6 +183,7 @@ fn joined_below(front: &[u8], x: u8, back: &[u8], b: &[u8]) -> bool
 }
 
 // Whether the first n bytes of a, that at i raised by one, are below b.
+#[tactic(auto, unfolding(crate::specs::Plan::raised, codec::specs::Bytes::part))]
 fn raised_below(a: &[u8], i: usize, n: usize, b: &[u8]) -> bool
     requires { Raisable a.now i n }
     ensures { result ≡ bytes_below (raised a.now i n) b.now }
@@ -294,6 +295,7 @@ fn put_joined(out: &mut [u8], at: usize, front: &[u8], x: u8, back: &[u8]) -> Wr
 }
 
 // Writes the first n bytes of a, that at i raised by one, at a place of out.
+#[tactic(auto, unfolding(crate::specs::Plan::raised, codec::specs::Bytes::part))]
 fn put_raised(out: &mut [u8], at: usize, a: &[u8], i: usize, n: usize) -> Written
     requires { Raisable a.now i n }
     ensures { Wrote out.old at (raised a.now i n) result out.new }

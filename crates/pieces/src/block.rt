@@ -88,16 +88,14 @@ fn row_out(f: Found) -> SalevoniRow
 }
 
 // A block of no entries, with a restart every so many.
-#[unsafe(no_mangle)]
-pub extern "C" fn salevoni_block_start(interval: usize) -> BlockBuilder
+pub fn salevoni_block_start(interval: usize) -> BlockBuilder
     ensures { result ≡ new_builder interval }
 {
     BlockBuilder::new(interval)
 }
 
 // Adds an entry to the block that starts at the front of out.
-#[unsafe(no_mangle)]
-pub extern "C" fn salevoni_block_add(
+pub fn salevoni_block_add(
     block: BlockBuilder,
     out: &mut [u8],
     restarts: &mut [u32],
@@ -115,20 +113,14 @@ pub extern "C" fn salevoni_block_add(
 }
 
 // Writes the restarts and their count behind the entries; the block is then the first size bytes of out.
-#[unsafe(no_mangle)]
-pub extern "C" fn salevoni_block_finish(
-    block: BlockBuilder,
-    out: &mut [u8],
-    restarts: &[u32],
-) -> SalevoniSize
+pub fn salevoni_block_finish(block: BlockBuilder, out: &mut [u8], restarts: &[u32]) -> SalevoniSize
     ensures { WroteOut out.old block.bytes (tail_bytes (take block.restarts restarts.now)) result out.new }
 {
     size_out(block.finish(out, 0, restarts))
 }
 
 // Whether some bytes are a well-formed block of a kind, 0 data, 1 index, any other metaindex: 0 or 10.
-#[unsafe(no_mangle)]
-pub extern "C" fn salevoni_block_check(block: &[u8], kind: u32) -> u32
+pub fn salevoni_block_check(block: &[u8], kind: u32) -> u32
     ensures { ToldOut (is_formed (kind_of (kind_in kind)) block.now) 0 10 result }
 {
     let k = kind_in(kind);
@@ -136,37 +128,28 @@ pub extern "C" fn salevoni_block_check(block: &[u8], kind: u32) -> u32
 }
 
 // The first entry of a block.
-#[unsafe(no_mangle)]
-pub extern "C" fn salevoni_block_first(block: &[u8], key: &mut [u8]) -> SalevoniRow
+pub fn salevoni_block_first(block: &[u8], key: &mut [u8]) -> SalevoniRow
     ensures { SaysOut block.now first_in any_order key.old result key.new }
 {
     row_out(block_reader::block::first(block, key))
 }
 
 // The entry at a place of a block.
-#[unsafe(no_mangle)]
-pub extern "C" fn salevoni_block_at(block: &[u8], start: usize, key: &mut [u8]) -> SalevoniRow
+pub fn salevoni_block_at(block: &[u8], start: usize, key: &mut [u8]) -> SalevoniRow
     ensures { SaysOut block.now (at_in start) any_order key.old result key.new }
 {
     row_out(block_reader::block::by_place(block, start, Which::Here, key))
 }
 
 // The entry after the one at a place.
-#[unsafe(no_mangle)]
-pub extern "C" fn salevoni_block_after(block: &[u8], start: usize, key: &mut [u8]) -> SalevoniRow
+pub fn salevoni_block_after(block: &[u8], start: usize, key: &mut [u8]) -> SalevoniRow
     ensures { SaysOut block.now (next_in start) any_order key.old result key.new }
 {
     row_out(block_reader::block::by_place(block, start, Which::After, key))
 }
 
 // The first entry of a block that is not below a word and an edition.
-#[unsafe(no_mangle)]
-pub extern "C" fn salevoni_block_seek(
-    block: &[u8],
-    word: &[u8],
-    edition: u64,
-    key: &mut [u8],
-) -> SalevoniRow
+pub fn salevoni_block_seek(block: &[u8], word: &[u8], edition: u64, key: &mut [u8]) -> SalevoniRow
     ensures { SaysOut block.now (seek_in (record { word = word.entry.now; edition = edition })) in_order key.old result key.new }
 {
     row_out(block_reader::block::seek(block, word, edition, key))

@@ -20,32 +20,28 @@ pub struct SalevoniFilters {
 }
 
 // The hash of some bytes.
-#[unsafe(no_mangle)]
-pub extern "C" fn salevoni_hash(bytes: &[u8]) -> u32
+pub fn salevoni_hash(bytes: &[u8]) -> u32
     ensures { result ≡ hash bytes.now }
 {
     bloom::filter::bloom_hash(bytes)
 }
 
 // How many probes a filter of so many bits per key takes.
-#[unsafe(no_mangle)]
-pub extern "C" fn salevoni_probes(bits: u32) -> u32
+pub fn salevoni_probes(bits: u32) -> u32
     ensures { result ≡ probes bits }
 {
     bloom::filter::probe_count(bits)
 }
 
 // The filter of some hashes at so many bits per key.
-#[unsafe(no_mangle)]
-pub extern "C" fn salevoni_filter(bits: u32, hashes: &[u32], out: &mut [u8]) -> SalevoniSize
+pub fn salevoni_filter(bits: u32, hashes: &[u32], out: &mut [u8]) -> SalevoniSize
     ensures { WroteOut out.old 0 (filter_for (bloom_of bits) hashes.now) result out.new }
 {
     size_out(bloom::filter::create_filter(Filter::Bits(bits), hashes, out, 0))
 }
 
 // Makes filters until there are count, the first of all hashes, the others empty, behind bytes bytes of made filters.
-#[unsafe(no_mangle)]
-pub extern "C" fn salevoni_filter_block_add(
+pub fn salevoni_filter_block_add(
     bits: u32,
     hashes: &[u32],
     count: usize,
@@ -80,28 +76,21 @@ pub extern "C" fn salevoni_filter_block_add(
 }
 
 // The filter block of filters and their starts.
-#[unsafe(no_mangle)]
-pub extern "C" fn salevoni_filter_block_finish(
-    filters: &[u8],
-    offsets: &[u32],
-    out: &mut [u8],
-) -> SalevoniSize
+pub fn salevoni_filter_block_finish(filters: &[u8], offsets: &[u32], out: &mut [u8]) -> SalevoniSize
     ensures { WroteOut out.old 0 (filter_block_of filters.now offsets.now) result out.new }
 {
     size_out(filter_block::filter_block::finish(out, 0, filters, offsets))
 }
 
 // Whether a filter lets a hash through: 1 or 0.
-#[unsafe(no_mangle)]
-pub extern "C" fn salevoni_filter_may(filter: &[u8], hash: u32) -> u32
+pub fn salevoni_filter_may(filter: &[u8], hash: u32) -> u32
     ensures { ToldOut (filter_may filter.now hash) 1 0 result }
 {
     number_if(bloom::filter::key_may_match(filter, hash), 1, 0)
 }
 
 // Whether a filter block lets the data block at an offset hold a hash: 1 or 0.
-#[unsafe(no_mangle)]
-pub extern "C" fn salevoni_filter_block_may(block: &[u8], offset: usize, hash: u32) -> u32
+pub fn salevoni_filter_block_may(block: &[u8], offset: usize, hash: u32) -> u32
     ensures { ToldOut (may_match block.now offset hash) 1 0 result }
 {
     let may = filter_block::filter_block::may_match(block, offset, hash);
@@ -109,8 +98,7 @@ pub extern "C" fn salevoni_filter_block_may(block: &[u8], offset: usize, hash: u
 }
 
 // Whether some bytes are a well-formed filter block: 0 or 12.
-#[unsafe(no_mangle)]
-pub extern "C" fn salevoni_filter_block_check(block: &[u8]) -> u32
+pub fn salevoni_filter_block_check(block: &[u8]) -> u32
     ensures { ToldOut (filter_formed block.now) 0 12 result }
 {
     number_if(filter_block::filter_block::is_formed(block), 0, 12)

@@ -22,8 +22,7 @@ pub struct SalevoniFooter {
 }
 
 // The footer of a table.
-#[unsafe(no_mangle)]
-pub extern "C" fn salevoni_footer(table: &[u8]) -> SalevoniFooter
+pub fn salevoni_footer(table: &[u8]) -> SalevoniFooter
     ensures { result ≡ footer_out (footer_answer (footer table.now)) }
 {
     let f = table_block::footer::decode(table);
@@ -51,53 +50,42 @@ pub extern "C" fn salevoni_footer(table: &[u8]) -> SalevoniFooter
 }
 
 // The checksum continued over some bytes; it starts from 0.
-#[unsafe(no_mangle)]
-pub extern "C" fn salevoni_crc(crc: u32, bytes: &[u8]) -> u32
+pub fn salevoni_crc(crc: u32, bytes: &[u8]) -> u32
     ensures { result ≡ crc_extend crc bytes.now }
 {
     checksum::crc::extend(crc, bytes)
 }
 
 // The checksum as a table stores it.
-#[unsafe(no_mangle)]
-pub extern "C" fn salevoni_mask(crc: u32) -> u32
+pub fn salevoni_mask(crc: u32) -> u32
     ensures { result ≡ crc_mask crc }
 {
     checksum::crc::mask_crc(crc)
 }
 
 // The internal key of a word, an edition and a kind.
-#[unsafe(no_mangle)]
-pub extern "C" fn salevoni_internal_key(
-    out: &mut [u8],
-    word: &[u8],
-    edition: u64,
-    kind: u8,
-) -> SalevoniSize
+pub fn salevoni_internal_key(out: &mut [u8], word: &[u8], edition: u64, kind: u8) -> SalevoniSize
     ensures { WroteOut out.old 0 (internal word.now edition kind) result out.new }
 {
     size_out(keys::key_types::build_internal_key(out, 0, word, edition, kind))
 }
 
 // The separator of two words.
-#[unsafe(no_mangle)]
-pub extern "C" fn salevoni_separator(out: &mut [u8], a: &[u8], b: &[u8]) -> SalevoniSize
+pub fn salevoni_separator(out: &mut [u8], a: &[u8], b: &[u8]) -> SalevoniSize
     ensures { WroteOut out.old 0 (user_sep a.now b.now) result out.new }
 {
     size_out(keys::cmp::find_shortest_sep(out, 0, a, b))
 }
 
 // The separator of two internal keys.
-#[unsafe(no_mangle)]
-pub extern "C" fn salevoni_internal_separator(out: &mut [u8], a: &[u8], b: &[u8]) -> SalevoniSize
+pub fn salevoni_internal_separator(out: &mut [u8], a: &[u8], b: &[u8]) -> SalevoniSize
     ensures { WroteOut out.old 0 (separator a.now b.now) result out.new }
 {
     size_out(keys::cmp::find_internal_sep(out, 0, a, b))
 }
 
 // A short word not below a word.
-#[unsafe(no_mangle)]
-pub extern "C" fn salevoni_short_succ(out: &mut [u8], a: &[u8]) -> SalevoniSize
+pub fn salevoni_short_succ(out: &mut [u8], a: &[u8]) -> SalevoniSize
     ensures { WroteOut out.old 0 (short_succ a.now) result out.new }
 {
     size_out(keys::cmp::find_short_succ(out, 0, a))
