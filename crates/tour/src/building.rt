@@ -3,6 +3,8 @@ use crate::{list, say};
 use bloom::filter::Filter;
 use builder::table_builder;
 use builder::table_builder::{Answer, Builder, Options, Outcome};
+use std::io;
+use std::io::Write;
 
 // How long the runs are, those of bytes and those of numbers.
 pub const BYTES: usize = 4096;
@@ -15,18 +17,19 @@ fn kind(cells: &[u8]) -> u8 {
 }
 
 // An entry that is refused is told.
-fn tell(line: &[u8], a: Answer) {
+fn tell<W: Write>(writer: &mut W, line: &[u8], a: Answer) -> io::Result<()> {
     match a {
-        Answer::Ok => (),
+        Answer::Ok => Ok(()),
         Answer::Refused(n) => {
-            say::of(list::word(line), list::edition(line));
-            say::refused(n);
+            say::of(writer, list::word(line), list::edition(line))?;
+            say::refused(writer, n)
         }
     }
 }
 
 // Adds the entry of a line, if it has one.
-fn add(
+fn add<W: Write>(
+    writer: &mut W,
     line: &[u8],
     state: Builder,
     out: &mut [u8; BYTES],
@@ -36,9 +39,9 @@ fn add(
     index_restarts: &mut [u32; NUMBERS],
     offsets: &mut [u32; NUMBERS],
     hashes: &mut [u32; NUMBERS],
-) -> Builder {
+) -> io::Result<Builder> {
     if !list::is(line, b'+') {
-        return state;
+        return Ok(state);
     }
     let cells = list::cells(line);
     let r = state.add(
@@ -56,12 +59,13 @@ fn add(
     );
     let answer = r.answer;
     let after = r.state;
-    tell(line, answer);
-    after
+    tell(writer, line, answer)?;
+    Ok(after)
 }
 
 // Adds every entry, and finishes the table: its size, 0 if it is refused.
-fn add_all(
+fn add_all<W: Write>(
+    writer: &mut W,
     s: &[u8],
     begun: Builder,
     out: &mut [u8; BYTES],
@@ -71,12 +75,12 @@ fn add_all(
     index_restarts: &mut [u32; NUMBERS],
     offsets: &mut [u32; NUMBERS],
     hashes: &mut [u32; NUMBERS],
-) -> usize {
+) -> io::Result<usize> {
     let mut state = begun;
     let mut at: usize = 0;
-    let mut n: usize = 0;
-    while n < list::MOST {
+    for _ in 0..list::MOST {
         let next = add(
+            writer,
             list::line(s, at),
             state,
             out,
@@ -86,10 +90,9 @@ fn add_all(
             index_restarts,
             offsets,
             hashes,
-        );
+        )?;
         state = next;
         at = list::next(s, at);
-        n = n + 1;
     }
     let f = state.finish(
         out,
@@ -101,30 +104,30 @@ fn add_all(
         hashes,
     );
     let outcome = f.answer;
-    finished(outcome)
+    finished(writer, outcome)
 }
 
 // Tells of the finished table; its size.
-fn finished(o: Outcome) -> usize {
+fn finished<W: Write>(writer: &mut W, o: Outcome) -> io::Result<usize> {
     match o {
         Outcome::Size(size) => {
-            say::say(b"The table of them was built. It has ");
-            say::number(size);
-            say::say(b" bytes.\n");
-            size
+            say::say(writer, b"The table of them was built. It has ")?;
+            say::number(writer, size)?;
+            say::say(writer, b" bytes.\n")?;
+            Ok(size)
         }
         Outcome::Refused(n) => {
-            say::refused(n);
-            0
+            say::refused(writer, n)?;
+            Ok(0)
         }
     }
 }
 
 // Every entry is a restart, so that no key hangs on the one before it; a block is cut when it is over 320 bytes.
-pub fn build(s: &[u8], out: &mut [u8; BYTES]) -> usize {
-    say::say(b"The list has ");
-    say::number(list::count(s, b'+'));
-    say::say(b" entries.\n");
+pub fn build<W: Write>(writer: &mut W, s: &[u8], out: &mut [u8; BYTES]) -> io::Result<usize> {
+    say::say(writer, b"The list has ")?;
+    say::number(writer, list::count(s, b'+'))?;
+    say::say(writer, b" entries.\n")?;
     let mut index = [0u8; BYTES];
     let mut filters = [0u8; BYTES];
     let mut restarts = [0u32; NUMBERS];
@@ -150,6 +153,7 @@ pub fn build(s: &[u8], out: &mut [u8; BYTES]) -> usize {
     let answer = r.answer;
     match answer {
         Answer::Ok => add_all(
+            writer,
             s,
             begun,
             out,
@@ -161,8 +165,8 @@ pub fn build(s: &[u8], out: &mut [u8; BYTES]) -> usize {
             &mut hashes,
         ),
         Answer::Refused(n) => {
-            say::refused(n);
-            0
+            say::refused(writer, n)?;
+            Ok(0)
         }
     }
 }

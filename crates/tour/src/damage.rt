@@ -9,6 +9,8 @@ use codec::blockhandle;
 use codec::blockhandle::OneHandle;
 use reader::table_reader;
 use reader::table_reader::{Entry, Place, Sought};
+use std::io;
+use std::io::Write;
 use table_block::footer;
 use table_block::footer::FooterRead;
 
@@ -26,18 +28,23 @@ fn set(table: &mut [u8], at: usize, b: u8) {
 }
 
 // A byte that the press reads as another, and no new checksum.
-fn changed(table: &mut [u8], size: usize) {
-    say(b"Damage 1: one bit of the first block is changed.\n");
+fn changed<W: Write>(writer: &mut W, table: &mut [u8], size: usize) -> io::Result<()> {
+    say(
+        writer,
+        b"Damage 1: one bit of the first block is changed.\n",
+    )?;
     flip(table, 20);
-    reading::check(part(table, 0, size));
+    reading::check(writer, part(table, 0, size))?;
     flip(table, 20);
+    Ok(())
 }
 
-fn cut(table: &[u8], size: usize) {
-    say(b"Damage 2: the last byte is missing.\n");
+fn cut<W: Write>(writer: &mut W, table: &[u8], size: usize) -> io::Result<()> {
+    say(writer, b"Damage 2: the last byte is missing.\n")?;
     if 0 < size {
-        reading::check(part(table, 0, size - 1));
+        reading::check(writer, part(table, 0, size - 1))?;
     }
+    Ok(())
 }
 
 // Where a block stands; of no bytes where there is none.
@@ -123,19 +130,23 @@ fn outside(t: &[u8]) -> Entry {
 
 // The newest entry of a word is the first of its block. With a lower first byte its key stands below the block before it, and
 // the checksum does not show it: a search steps over it.
-fn lowered(table: &mut [u8], size: usize) {
+fn lowered<W: Write>(writer: &mut W, table: &mut [u8], size: usize) -> io::Result<()> {
     say(
+        writer,
         b"Damage 3: the first key of a block is lowered, below the block before it, and the checksum made anew.\n",
-    );
+    )?;
     let e = newest(part(table, 0, size), b"dollar");
     lower(table, size, e);
-    say(b"A press that does not check takes an outdated code: ");
-    reading::look(part(table, 0, size), b"dollar", 2);
-    reading::check(part(table, 0, size));
+    say(
+        writer,
+        b"A press that does not check takes an outdated code: ",
+    )?;
+    reading::look(writer, part(table, 0, size), b"dollar", 2)?;
+    reading::check(writer, part(table, 0, size))
 }
 
-pub fn three(table: &mut [u8], size: usize) {
-    changed(table, size);
-    cut(table, size);
-    lowered(table, size);
+pub fn three<W: Write>(writer: &mut W, table: &mut [u8], size: usize) -> io::Result<()> {
+    changed(writer, table, size)?;
+    cut(writer, table, size)?;
+    lowered(writer, table, size)
 }

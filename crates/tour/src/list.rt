@@ -26,7 +26,10 @@ fn find(s: &[u8], from: usize, b: u8) -> usize {
     if s.len() < from {
         return s.len();
     }
-    bytes::scan::find(s, from, s.len(), b)
+    match s[from..].iter().position(|x| *x == b) {
+        Some(i) => from + i,
+        None => s.len(),
+    }
 }
 
 // The place behind it.
@@ -61,14 +64,12 @@ fn more(n: usize) -> usize {
 // How many lines are of a kind.
 pub fn count(s: &[u8], kind: u8) -> usize {
     let mut at: usize = 0;
-    let mut n: usize = 0;
     let mut found: usize = 0;
-    while n < MOST {
+    for _ in 0..MOST {
         if is(line(s, at), kind) {
             found = more(found);
         }
         at = next(s, at);
-        n = n + 1;
     }
     found
 }

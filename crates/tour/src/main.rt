@@ -11,27 +11,38 @@ mod say;
 
 use building::BYTES;
 use list::part;
+use std::io;
+use std::io::{BufWriter, Read, Write};
 
 // What is read of the finished table, and then of damaged copies.
-fn visit(s: &[u8], table: &mut [u8; BYTES], size: usize) {
+fn visit<W: Write>(
+    writer: &mut W,
+    s: &[u8],
+    table: &mut [u8; BYTES],
+    size: usize,
+) -> io::Result<()> {
     let t = part(table, 0, size);
-    reading::check(t);
-    reading::questions(s, t);
-    reading::walk(t);
-    damage::three(table, size);
+    reading::check(writer, t)?;
+    reading::questions(writer, s, t)?;
+    reading::walk(writer, t)?;
+    damage::three(writer, table, size)
 }
 
 // A table is built of the list and read, and then damaged copies of it.
-fn tour(s: &[u8]) {
+fn tour<W: Write>(writer: &mut W, s: &[u8]) -> io::Result<()> {
     let mut table = [0u8; BYTES];
-    let size = building::build(s, &mut table);
+    let size = building::build(writer, s, &mut table)?;
     if 0 < size {
-        visit(s, &mut table, size);
+        visit(writer, s, &mut table, size)?;
     }
+    Ok(())
 }
 
-fn main() {
-    let mut input = [0u8; 4096];
-    let n = io::read_full(0, &mut input);
-    tour(&input[0..n]);
+// No more than 4096 bytes of standard input are read.
+fn main(rt: HostRuntime) -> io::Result<()> {
+    let mut input = Vec::new(rt.alloc());
+    rt.reader().take(4096).read_to_end(&mut input)?;
+    let mut writer = BufWriter::new(rt.alloc(), io::writer(&rt))?;
+    tour(&mut writer, input.as_slice())?;
+    writer.flush()
 }

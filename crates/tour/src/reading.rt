@@ -7,66 +7,73 @@ use full_check::check::Verdict;
 use keys::key_types;
 use reader::table_reader;
 use reader::table_reader::{Entry, Found, Place, Sought};
+use std::io;
+use std::io::Write;
 
-pub fn check(t: &[u8]) {
-    say(b"The full check: ");
+pub fn check<W: Write>(writer: &mut W, t: &[u8]) -> io::Result<()> {
+    say(writer, b"The full check: ")?;
     match check::check(t) {
-        Verdict::Pass => say(b"passed.\n"),
-        Verdict::Refused(n) => say::refused(n),
+        Verdict::Pass => say(writer, b"passed.\n"),
+        Verdict::Refused(n) => say::refused(writer, n),
     }
 }
 
 // The cells of an entry, and the edition in which they were set.
-fn cells(t: &[u8], key: &[u8], e: Entry) {
-    say(table_reader::value(t, e));
-    say(b", set in edition ");
-    say::number((key_types::tag_of(part(key, 0, e.key_len)) / 256) as usize);
-    say(b".\n");
+fn cells<W: Write>(writer: &mut W, t: &[u8], key: &[u8], e: Entry) -> io::Result<()> {
+    say(writer, table_reader::value(t, e))?;
+    say(writer, b", set in edition ")?;
+    say::number(
+        writer,
+        (key_types::tag_of(part(key, 0, e.key_len)) / 256) as usize,
+    )?;
+    say(writer, b".\n")
 }
 
-fn deleted(key: &[u8], e: Entry) {
-    say(b"deleted in edition ");
-    say::number((key_types::tag_of(part(key, 0, e.key_len)) / 256) as usize);
-    say(b".\n");
+fn deleted<W: Write>(writer: &mut W, key: &[u8], e: Entry) -> io::Result<()> {
+    say(writer, b"deleted in edition ")?;
+    say::number(
+        writer,
+        (key_types::tag_of(part(key, 0, e.key_len)) / 256) as usize,
+    )?;
+    say(writer, b".\n")
 }
 
 // A lookup, told.
-pub fn look(t: &[u8], word: &[u8], edition: u64) {
+pub fn look<W: Write>(writer: &mut W, t: &[u8], word: &[u8], edition: u64) -> io::Result<()> {
     let mut key = [0u8; 1032];
-    say::of(word, edition);
+    say::of(writer, word, edition)?;
     match table_reader::lookup(t, word, edition, &mut key) {
-        Found::Entry(e) => cells(t, &key, e),
-        Found::Deleted(e) => deleted(&key, e),
-        Found::Absent => say(b"absent.\n"),
-        Found::Refused(n) => say::refused(n),
+        Found::Entry(e) => cells(writer, t, &key, e),
+        Found::Deleted(e) => deleted(writer, &key, e),
+        Found::Absent => say(writer, b"absent.\n"),
+        Found::Refused(n) => say::refused(writer, n),
     }
 }
 
 // Every question of the list.
-pub fn questions(s: &[u8], t: &[u8]) {
+pub fn questions<W: Write>(writer: &mut W, s: &[u8], t: &[u8]) -> io::Result<()> {
     let mut at: usize = 0;
-    let mut n: usize = 0;
-    say(b"Words are looked up as of an edition.\n");
-    while n < list::MOST {
+    say(writer, b"Words are looked up as of an edition.\n")?;
+    for _ in 0..list::MOST {
         let line = list::line(s, at);
         if list::is(line, b'?') {
-            look(t, list::word(line), list::edition(line));
+            look(writer, t, list::word(line), list::edition(line))?;
         }
         at = list::next(s, at);
-        n = n + 1;
     }
+    Ok(())
 }
 
 // An entry of the walk.
-fn entry(t: &[u8], key: &[u8], e: Entry) {
+fn entry<W: Write>(writer: &mut W, t: &[u8], key: &[u8], e: Entry) -> io::Result<()> {
     let k = part(key, 0, e.key_len);
     let tag = key_types::tag_of(k);
-    say::of(key_types::user_key(k), tag / 256);
+    say::of(writer, key_types::user_key(k), tag / 256)?;
     if tag % 256 == 0 {
-        say(b"deleted.\n");
+        say(writer, b"deleted.\n")
     } else {
-        say(table_reader::value(t, e));
-        say(b".\n");
+        say(writer, table_reader::value(t, e))?;
+        say(writer, b".\n")
     }
 }
 
@@ -86,44 +93,49 @@ fn ended() -> Walked {
     }
 }
 
-fn visit(t: &[u8], key: &[u8], r: Sought) -> Walked {
+fn visit<W: Write>(writer: &mut W, t: &[u8], key: &[u8], r: Sought) -> io::Result<Walked> {
     match r {
         Sought::Entry(e) => {
-            entry(t, key, e);
+            entry(writer, t, key, e)?;
             let place = e.place;
-            Walked {
+            Ok(Walked {
                 more: true,
                 index: place.index,
                 entry: place.entry,
-            }
+            })
         }
-        Sought::None => ended(),
+        Sought::None => Ok(ended()),
         Sought::Refused(n) => {
-            say::refused(n);
-            ended()
+            say::refused(writer, n)?;
+            Ok(ended())
         }
     }
 }
 
-fn first(t: &[u8]) -> Walked {
+fn first<W: Write>(writer: &mut W, t: &[u8]) -> io::Result<Walked> {
     let mut key = [0u8; 1032];
     let r = table_reader::seek(t, b"\0", 0x00ff_ffff_ffff_ffff, &mut key);
-    visit(t, &key, r)
+    visit(writer, t, &key, r)
 }
 
-fn step(t: &[u8], index: usize, entry: usize) -> Walked {
+fn step<W: Write>(writer: &mut W, t: &[u8], index: usize, entry: usize) -> io::Result<Walked> {
     let mut key = [0u8; 1032];
     let r = table_reader::step(t, Place { index, entry }, &mut key);
-    visit(t, &key, r)
+    visit(writer, t, &key, r)
 }
 
 // All entries, by a seek of the least target and steps.
-pub fn walk(t: &[u8]) {
-    say(b"A walk over the table: each word, its newest edition first.\n");
-    let mut w = first(t);
-    let mut n: usize = 0;
-    while n < list::MOST && w.more {
-        w = step(t, w.index, w.entry);
-        n = n + 1;
+pub fn walk<W: Write>(writer: &mut W, t: &[u8]) -> io::Result<()> {
+    say(
+        writer,
+        b"A walk over the table: each word, its newest edition first.\n",
+    )?;
+    let mut w = first(writer, t)?;
+    for _ in 0..list::MOST {
+        if !w.more {
+            break;
+        }
+        w = step(writer, t, w.index, w.entry)?;
     }
+    Ok(())
 }

@@ -1,85 +1,74 @@
 // Sentences, one to a line.
-use libc::STDOUT_FILENO;
+use std::io;
+use std::io::Write;
 
-pub fn say(s: &[u8]) {
-    io::write_all(STDOUT_FILENO, s);
+pub fn say<W: Write>(writer: &mut W, s: &[u8]) -> io::Result<()> {
+    writer.write_all(s)
 }
 
-pub fn number(n: usize) {
-    io::print_decimal(STDOUT_FILENO, n as u64);
+pub fn number<W: Write>(writer: &mut W, n: usize) -> io::Result<()> {
+    write!(writer, "{n}")
 }
 
 // A word and an edition, to say something of.
-pub fn of(word: &[u8], edition: u64) {
-    say(word);
-    say(b", edition ");
-    io::print_decimal(STDOUT_FILENO, edition);
-    say(b": ");
+pub fn of<W: Write>(writer: &mut W, word: &[u8], edition: u64) -> io::Result<()> {
+    say(writer, word)?;
+    write!(writer, ", edition {edition}: ")
 }
 
 // What a refusal of building means.
-fn building(n: u32) {
+fn building<W: Write>(writer: &mut W, n: u32) -> io::Result<()> {
     if n == 1 {
-        say(b"an option is outside its limits");
-        return;
+        return say(writer, b"an option is outside its limits");
     }
     if n == 2 {
-        say(b"a lent run is too short");
-        return;
+        return say(writer, b"a lent run is too short");
     }
     if n == 3 {
-        say(b"key, value, edition or kind is outside its limits");
-        return;
+        return say(writer, b"key, value, edition or kind is outside its limits");
     }
     if n == 4 {
-        say(b"the key is not above the last one");
-        return;
+        return say(writer, b"the key is not above the last one");
     }
     if n == 5 {
-        say(b"the table would not fit");
-        return;
+        return say(writer, b"the table would not fit");
     }
-    say(b"the table is finished");
+    say(writer, b"the table is finished")
 }
 
 // What a refusal of a table means.
-fn table(n: u32) {
+fn table<W: Write>(writer: &mut W, n: u32) -> io::Result<()> {
     if n == 7 {
-        say(b"it is too short or too long, or does not end as a table does");
-        return;
+        return say(
+            writer,
+            b"it is too short or too long, or does not end as a table does",
+        );
     }
     if n == 8 {
-        say(b"a block would not lie inside it");
-        return;
+        return say(writer, b"a block would not lie inside it");
     }
     if n == 9 {
-        say(b"a block is not what its checksum says");
-        return;
+        return say(writer, b"a block is not what its checksum says");
     }
     if n == 10 {
-        say(b"a block is malformed");
-        return;
+        return say(writer, b"a block is malformed");
     }
     if n == 11 {
-        say(b"keys are out of order");
-        return;
+        return say(writer, b"keys are out of order");
     }
     if n == 12 {
-        say(b"the filter is malformed or denies an entry");
-        return;
+        return say(writer, b"the filter is malformed or denies an entry");
     }
-    say(b"no entry starts at the place");
+    say(writer, b"no entry starts at the place")
 }
 
 // A refusal: its number, and what it means.
-pub fn refused(n: u32) {
-    say(b"refused, number ");
-    number(n as usize);
-    say(b": ");
+pub fn refused<W: Write>(writer: &mut W, n: u32) -> io::Result<()> {
+    write!(writer, "refused, number {n}: ")?;
     if n < 7 {
-        building(n);
+        building(writer, n)?;
     } else {
-        table(n);
+        table(writer, n)?;
     }
-    say(b".\n");
+    say(writer, b".\n")
 }
