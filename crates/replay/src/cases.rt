@@ -1,6 +1,6 @@
 // Commands on keys, filters, blocks and tables, answered.
 use crate::show::Out;
-use crate::{blocks, fields, filters, keyed, tables};
+use crate::{block_cases, fields, filter_cases, keyed, tables};
 use std::io;
 
 // Answers a line by its command, and says how long the loaded bytes then are.
@@ -10,13 +10,13 @@ pub fn answer(to: &mut Out, s: &[u8], op: u8, block: &mut [u8], len: usize) -> i
         keyed::answer(to, s, from, op)?;
         return Ok(len);
     }
-    if filters::knows(op) {
-        filters::answer(to, s, from, op)?;
+    if filter_cases::knows(op) {
+        filter_cases::answer(to, s, from, op)?;
         return Ok(len);
     }
     if tables::knows(op) {
         tables::answer(to, s, from, op, block, len)?;
         return Ok(len);
     }
-    blocks::answer(to, s, from, op, block, len)
+    block_cases::answer(to, s, from, op, block, len)
 }

@@ -6,11 +6,11 @@
 
 ghost use Rattle.std.specs.Prelude.{◌<◌, IfOk};
 
-mod blocks;
+mod block_cases;
 mod calls;
 mod cases;
 mod fields;
-mod filters;
+mod filter_cases;
 mod finished;
 mod input;
 mod keyed;

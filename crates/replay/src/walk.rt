@@ -1,6 +1,6 @@
 // Walks by the calls alone, all by one loop: a block's entries by first and next, a table's by a seek of the least target and steps.
 use crate::show::Out;
-use crate::{blocks, finished, show, tables};
+use crate::{block_cases, finished, show, tables};
 use std::io;
 
 // What is walked over, and how it is told: a block or a table by its first entries, a finished table by one checksum of all.
@@ -35,8 +35,8 @@ fn next(to: &mut Out, over: Over, s: &[u8], w: Walked, n: usize) -> io::Result<W
     let mut key = [0xee_u8; 1032];
     match over {
         Over::Block => {
-            let f = blocks::reached(s, w.entry, n, &mut key);
-            blocks::visit(to, s, f, &key, n)
+            let f = block_cases::reached(s, w.entry, n, &mut key);
+            block_cases::visit(to, s, f, &key, n)
         }
         Over::Table => {
             let r = tables::reached(s, w, n, &mut key);
