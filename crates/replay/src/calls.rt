@@ -3,6 +3,7 @@ ghost use Rattle.std.specs.Prelude.{◌≤◌};
 
 use crate::fields::front;
 use crate::runs::{BYTES, NUMBERS, Seven};
+use crate::show::Out;
 use crate::{fields, finished, runs, show, state};
 use block_builder::block_builder::BlockBuilder;
 use bloom::filter::Filter;
@@ -11,6 +12,7 @@ use builder::table_builder::{
     Added, Answer, Builder, Finished, Lengths, Options, Outcome, Started,
 };
 use codec::fixed::NumberRead;
+use std::io;
 
 // How long the runs are in use, those of bytes and those of numbers, and the checksums of what is in use; the lengths of the
 // parts lent to calls; the builder's state, and one kept to come back to.
@@ -357,39 +359,38 @@ fn may(op: u8, n: u32) -> bool {
     n == 0 || n == 5 || (op == b'a' && n == 4)
 }
 
-fn tell_any(op: u8, d: Done) {
+fn tell_any(to: &mut Out, op: u8, d: Done) -> io::Result<()> {
     if may(op, d.refused) {
-        show::say(b" allowed");
+        show::say(to, b" allowed")
     } else {
-        show::say(b" other ");
-        show::number64(d.refused as u64);
+        show::say(to, b" other ")?;
+        show::number64(to, d.refused as u64)
     }
 }
 
-fn tell_done(op: u8, d: Done, out: &[u8]) {
+fn tell_done(to: &mut Out, op: u8, d: Done, out: &[u8]) -> io::Result<()> {
     if op == b'F' {
-        show::say(b" size ");
-        show::number(d.size);
-        finished::table(front(out, d.size));
+        show::say(to, b" size ")?;
+        show::number(to, d.size)?;
+        finished::table(to, front(out, d.size))
     } else {
-        show::say(b" ok");
+        show::say(to, b" ok")
     }
 }
 
-fn tell_refused(d: Done) {
-    show::say(b" refused ");
-    show::number64(d.refused as u64);
+fn tell_refused(to: &mut Out, d: Done) -> io::Result<()> {
+    show::say(to, b" refused ")?;
+    show::number64(to, d.refused as u64)
 }
 
-fn tell(op: u8, d: Done, out: &[u8]) {
+fn tell(to: &mut Out, op: u8, d: Done, out: &[u8]) -> io::Result<()> {
     if op == b'a' || op == b'f' {
-        tell_any(op, d);
-        return;
+        return tell_any(to, op, d);
     }
     if d.refused == 0 {
-        tell_done(op, d, out);
+        tell_done(to, op, d, out)
     } else {
-        tell_refused(d);
+        tell_refused(to, d)
     }
 }
 
@@ -403,20 +404,21 @@ fn same_state(op: u8, before: Builder, after: Builder) -> bool {
 }
 
 // A call that is refused leaves everything as it was, and so does any start.
-fn tell_kept(op: u8, d: Done, before: Builder, runs_same: bool) {
+fn tell_kept(to: &mut Out, op: u8, d: Done, before: Builder, runs_same: bool) -> io::Result<()> {
     let next = d.state;
     if d.refused != 0 || op == b'S' {
-        show::yes(runs_same, b" changed runs", b"");
-        show::yes(same_state(op, before, next), b" changed state", b"");
+        show::yes(to, runs_same, b" changed runs", b"")?;
+        show::yes(to, same_state(op, before, next), b" changed state", b"")?;
     }
+    Ok(())
 }
 
 // Tells what a call answered, by the checksums before and after it.
-fn tell_call(op: u8, d: Done, rig: Rig, after: Seven, out: &[u8]) {
+fn tell_call(to: &mut Out, op: u8, d: Done, rig: Rig, after: Seven, out: &[u8]) -> io::Result<()> {
     let before = rig.sums;
     let was = rig.state;
-    tell(op, d, out);
-    tell_kept(op, d, was, runs::same(before, after));
+    tell(to, op, d, out)?;
+    tell_kept(to, op, d, was, runs::same(before, after))
 }
 
 fn is_call(op: u8) -> bool {
@@ -424,18 +426,18 @@ fn is_call(op: u8) -> bool {
 }
 
 // Tells what a command did.
-fn tell_all(op: u8, d: Done, rig: Rig, after: Seven, out: &[u8]) {
+fn tell_all(to: &mut Out, op: u8, d: Done, rig: Rig, after: Seven, out: &[u8]) -> io::Result<()> {
     if op == b'R' {
-        runs::tell(after);
+        runs::tell(to, after)?;
     }
     if op == b'B' {
         let b = rig.state;
-        state::tell(b);
+        state::tell(to, b)?;
     }
     if is_call(op) {
-        tell_call(op, d, rig, after, out);
+        tell_call(to, op, d, rig, after, out)?;
     }
-    show::yes(op == 0 || op == b'#', b"\n", b"");
+    show::yes(to, op == 0 || op == b'#', b"\n", b"")
 }
 
 // The rig after a command.
@@ -549,6 +551,7 @@ fn act(
 
 // Does what a line's command says, and tells it. The command 0 is none, and # starts with a rig of nothing.
 pub fn answer(
+    to: &mut Out,
     s: &[u8],
     op: u8,
     rig: Rig,
@@ -559,7 +562,7 @@ pub fn answer(
     index_restarts: &mut [u32; NUMBERS],
     offsets: &mut [u32; NUMBERS],
     hashes: &mut [u32; NUMBERS],
-) -> Rig {
+) -> io::Result<Rig> {
     let at = fields::after(0);
     let now = prepared(s, at, op, rig);
     let done = act(
@@ -586,6 +589,6 @@ pub fn answer(
         offsets,
         hashes,
     );
-    tell_all(op, done, now, after, out);
-    going(now, done, after)
+    tell_all(to, op, done, now, after, out)?;
+    Ok(going(now, done, after))
 }

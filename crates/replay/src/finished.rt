@@ -1,5 +1,6 @@
 // A finished table: its bytes, the full check of it, and a walk through it.
 use crate::fields::front;
+use crate::show::Out;
 use crate::walk::{Over, Walked};
 use crate::{show, state, tables, walk};
 use full_check::check;
@@ -7,23 +8,24 @@ use full_check::check::Verdict;
 use keys::key_types;
 use reader::table_reader;
 use reader::table_reader::{Entry, Found, Place, Sought};
+use std::io;
 
 // Short tables in hex, long ones by their checksum.
-fn bytes(t: &[u8]) {
-    show::say(b" ");
+fn bytes(to: &mut Out, t: &[u8]) -> io::Result<()> {
+    show::say(to, b" ")?;
     if t.len() <= 300 {
-        show::hex(t);
+        show::hex(to, t)
     } else {
-        show::word(checksum::crc::extend(0, t));
+        show::word(to, checksum::crc::extend(0, t))
     }
 }
 
-fn verdict(t: &[u8]) {
+fn verdict(to: &mut Out, t: &[u8]) -> io::Result<()> {
     match check::check(t) {
-        Verdict::Pass => show::say(b" pass"),
+        Verdict::Pass => show::say(to, b" pass"),
         Verdict::Refused(n) => {
-            show::say(b" check ");
-            show::number64(n as u64);
+            show::say(to, b" check ")?;
+            show::number64(to, n as u64)
         }
     }
 }
@@ -49,12 +51,12 @@ fn is_it(r: Found, place: Place, deletion: bool) -> bool {
 }
 
 // A lookup of the word at its edition has to find the entry itself.
-fn look(t: &[u8], key: &[u8], e: Entry) {
+fn look(to: &mut Out, t: &[u8], key: &[u8], e: Entry) -> io::Result<()> {
     let mut other = [0xee_u8; 1032];
     let tag = key_types::tag_of(key);
     let r = table_reader::lookup(t, key_types::user_key(key), tag / 256, &mut other);
     let place = e.place;
-    show::yes(is_it(r, place, tag % 256 == 0), b" lost", b"");
+    show::yes(to, is_it(r, place, tag % 256 == 0), b" lost", b"")
 }
 
 // The checksum with an entry more: key and value, and how long each is.
@@ -66,28 +68,28 @@ fn with_entry(sum: u32, t: &[u8], key: &[u8], e: Entry) -> u32 {
     )
 }
 
-fn met(sum: u32, t: &[u8], key: &[u8], e: Entry) -> Walked {
-    look(t, key, e);
-    tables::going(e, with_entry(sum, t, key, e))
+fn met(to: &mut Out, sum: u32, t: &[u8], key: &[u8], e: Entry) -> io::Result<Walked> {
+    look(to, t, key, e)?;
+    Ok(tables::going(e, with_entry(sum, t, key, e)))
 }
 
 // One entry of a walk.
-pub fn visit(sum: u32, t: &[u8], key: &[u8], r: Sought) -> Walked {
+pub fn visit(to: &mut Out, sum: u32, t: &[u8], key: &[u8], r: Sought) -> io::Result<Walked> {
     match r {
         Sought::Refused(n) => {
-            show::say(b" refused ");
-            show::number64(n as u64);
-            walk::nowhere(sum)
+            show::say(to, b" refused ")?;
+            show::number64(to, n as u64)?;
+            Ok(walk::nowhere(sum))
         }
-        Sought::None => walk::nowhere(sum),
-        Sought::Entry(e) => met(sum, t, front(key, e.key_len), e),
+        Sought::None => Ok(walk::nowhere(sum)),
+        Sought::Entry(e) => met(to, sum, t, front(key, e.key_len), e),
     }
 }
 
-pub fn table(t: &[u8]) {
-    bytes(t);
-    verdict(t);
-    let w = walk::walk(Over::Finished, t);
-    show::say(b" ");
-    show::word(w.sum);
+pub fn table(to: &mut Out, t: &[u8]) -> io::Result<()> {
+    bytes(to, t)?;
+    verdict(to, t)?;
+    let w = walk::walk(to, Over::Finished, t)?;
+    show::say(to, b" ")?;
+    show::word(to, w.sum)
 }

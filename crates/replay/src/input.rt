@@ -1,6 +1,9 @@
 // Standard input, read in parts: the lines that a run holds, one after the other.
 use crate::fields::front;
 use crate::show;
+use crate::show::Out;
+use std::io;
+use std::io::{Read, Stdin};
 
 // Where the line in turn starts and ends, and how many bytes the run holds. A line that ends where it starts is none.
 #[derive(Clone, Copy)]
@@ -30,8 +33,10 @@ fn line_end(s: &[u8], at: usize) -> usize {
     if s.len() < at {
         return 0;
     }
-    let i = bytes::scan::find(s, at, s.len(), b'\n');
-    if i < s.len() { i + 1 } else { 0 }
+    match s[at..].iter().position(|b| *b == b'\n') {
+        Some(i) => at + i + 1,
+        None => 0,
+    }
 }
 
 fn copy(s: &mut [u8], from: usize, to: usize) {
@@ -52,52 +57,55 @@ fn to_front(s: &mut [u8], at: usize, n: usize) -> usize {
     i - at
 }
 
-// More input behind the bytes that are held; how many bytes there then are.
-fn read_behind(s: &mut [u8], n: usize) -> usize {
-    if n < s.len() {
-        let got = io::read_full(0, &mut s[n..]);
-        n + got
-    } else {
-        n
+// More input behind the bytes that are held, until the run is full or the input ends; how many bytes there then are.
+fn read_behind(from: &mut Stdin, s: &mut [u8], n: usize) -> io::Result<usize> {
+    let mut end = n;
+    while end < s.len() {
+        let got = from.read(&mut s[end..])?;
+        if got == 0 {
+            return Ok(end);
+        }
+        end = end + got;
     }
+    Ok(end)
 }
 
 // Where the last line ends, which may lack its line end. A run that is full of it is too short.
-fn last_end(n: usize, room: usize) -> usize {
+fn last_end(to: &mut Out, n: usize, room: usize) -> io::Result<usize> {
     if n < room {
-        return n;
+        return Ok(n);
     }
-    show::say(b"a line is too long\n");
-    0
+    show::say(to, b"a line is too long\n")?;
+    Ok(0)
 }
 
-fn first(s: &[u8], n: usize) -> Held {
+fn first(to: &mut Out, s: &[u8], n: usize) -> io::Result<Held> {
     let end = line_end(front(s, n), 0);
     if end == 0 {
-        return Held {
+        return Ok(Held {
             at: 0,
-            end: last_end(n, s.len()),
+            end: last_end(to, n, s.len())?,
             n: n,
-        };
+        });
     }
-    Held {
+    Ok(Held {
         at: 0,
         end: end,
         n: n,
-    }
+    })
 }
 
 // The next line; where none ends in what is held, after more input.
-pub fn next(s: &mut [u8], h: Held) -> Held {
+pub fn next(from: &mut Stdin, to: &mut Out, s: &mut [u8], h: Held) -> io::Result<Held> {
     let end = line_end(front(s, h.n), h.end);
     if end != 0 {
-        return Held {
+        return Ok(Held {
             at: h.end,
             end: end,
             n: h.n,
-        };
+        });
     }
     let kept = to_front(s, h.end, h.n);
-    let n = read_behind(s, kept);
-    first(s, n)
+    let n = read_behind(from, s, kept)?;
+    first(to, s, n)
 }

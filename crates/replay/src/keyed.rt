@@ -1,10 +1,12 @@
 // Commands on keys.
 use crate::fields::front;
+use crate::show::Out;
 use crate::{fields, show};
 use codec::put::Written;
 use keys::cmp::Ordering;
 use keys::key_types::{KeyRead, ValueType};
 use keys::{cmp, key_types};
+use std::io;
 
 pub fn knows(op: u8) -> bool {
     op == b'c'
@@ -17,15 +19,15 @@ pub fn knows(op: u8) -> bool {
         || op == b'n'
 }
 
-fn order(o: Ordering) {
+fn order(to: &mut Out, o: Ordering) -> io::Result<()> {
     match o {
-        Ordering::Less => show::say(b" less"),
-        Ordering::Equal => show::say(b" equal"),
-        Ordering::Greater => show::say(b" greater"),
+        Ordering::Less => show::say(to, b" less"),
+        Ordering::Equal => show::say(to, b" equal"),
+        Ordering::Greater => show::say(to, b" greater"),
     }
 }
 
-fn compare(s: &[u8], at: usize, op: u8) {
+fn compare(to: &mut Out, s: &[u8], at: usize, op: u8) -> io::Result<()> {
     let mut a = [0u8; 1100];
     let mut b = [0u8; 1100];
     let fa = fields::field(s, at, &mut a);
@@ -33,43 +35,46 @@ fn compare(s: &[u8], at: usize, op: u8) {
     let x = front(&a, fa.len);
     let y = front(&b, fb.len);
     if op == b'c' {
-        order(cmp::cmp(x, y));
-        show::spaced(cmp::common_len(x, y));
+        order(to, cmp::cmp(x, y))?;
+        show::spaced(to, cmp::common_len(x, y))
     } else {
-        order(key_types::cmp_internal_key(x, y));
+        order(to, key_types::cmp_internal_key(x, y))
     }
 }
 
-fn target(s: &[u8], at: usize) {
+fn target(to: &mut Out, s: &[u8], at: usize) -> io::Result<()> {
     let mut a = [0u8; 1100];
     let mut b = [0u8; 1100];
     let fa = fields::field(s, at, &mut a);
     let fb = fields::field(s, fa.next, &mut b);
     let sequence = fields::number(s, fb.next);
-    order(key_types::cmp_target(front(&a, fa.len), front(&b, fb.len), sequence.value as u64));
+    order(
+        to,
+        key_types::cmp_target(front(&a, fa.len), front(&b, fb.len), sequence.value as u64),
+    )
 }
 
-fn kind(k: ValueType) {
+fn kind(to: &mut Out, k: ValueType) -> io::Result<()> {
     match k {
-        ValueType::TypeDeletion => show::say(b" deletion"),
-        ValueType::TypeValue => show::say(b" value"),
+        ValueType::TypeDeletion => show::say(to, b" deletion"),
+        ValueType::TypeValue => show::say(to, b" value"),
     }
 }
 
-fn parse(s: &[u8], at: usize) {
+fn parse(to: &mut Out, s: &[u8], at: usize) -> io::Result<()> {
     let mut a = [0u8; 1100];
     let fa = fields::field(s, at, &mut a);
     match key_types::parse_internal_key(front(&a, fa.len)) {
-        KeyRead::TooShort => show::say(b" too short"),
+        KeyRead::TooShort => show::say(to, b" too short"),
         KeyRead::Key {
             user_len,
             sequence,
             kind: k,
         } => {
-            show::spaced(user_len);
-            show::say(b" ");
-            show::number64(sequence);
-            kind(k);
+            show::spaced(to, user_len)?;
+            show::say(to, b" ")?;
+            show::number64(to, sequence)?;
+            kind(to, k)
         }
     }
 }
@@ -97,20 +102,21 @@ fn write(
 }
 
 // The same with room, and where it lacks a byte.
-fn written(op: u8, x: &[u8], y: &[u8], sequence: u64, kind: u8) {
+fn written(to: &mut Out, op: u8, x: &[u8], y: &[u8], sequence: u64, kind: u8) -> io::Result<()> {
     let mut run = [0xee_u8; 1200];
     let mut short = [0xee_u8; 1200];
     let w = write(op, &mut run, 3, x, y, sequence, kind);
     let place = show::one_short(1200, 3, w);
     let v = write(op, &mut short, place, x, y, sequence, kind);
-    show::written(&run, 3, w);
+    show::written(to, &run, 3, w)?;
     if show::some(3, w) {
-        show::refused(&short, v);
+        show::refused(to, &short, v)?;
     }
+    Ok(())
 }
 
 // What is written of a word, an edition and a kind, or of two words.
-fn put(s: &[u8], at: usize, op: u8) {
+fn put(to: &mut Out, s: &[u8], at: usize, op: u8) -> io::Result<()> {
     let mut a = [0u8; 1100];
     let mut b = [0u8; 1100];
     let fa = fields::field(s, at, &mut a);
@@ -118,26 +124,24 @@ fn put(s: &[u8], at: usize, op: u8) {
     let sequence = fields::number(s, fa.next);
     let k = fields::number(s, sequence.next);
     written(
+        to,
         op,
         front(&a, fa.len),
         front(&b, fb.len),
         sequence.value as u64,
         (k.value % 256) as u8,
-    );
+    )
 }
 
-pub fn answer(s: &[u8], at: usize, op: u8) {
+pub fn answer(to: &mut Out, s: &[u8], at: usize, op: u8) -> io::Result<()> {
     if op == b'c' || op == b'i' {
-        compare(s, at, op);
-        return;
+        return compare(to, s, at, op);
     }
     if op == b't' {
-        target(s, at);
-        return;
+        return target(to, s, at);
     }
     if op == b'p' {
-        parse(s, at);
-        return;
+        return parse(to, s, at);
     }
-    put(s, at, op);
+    put(to, s, at, op)
 }

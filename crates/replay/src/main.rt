@@ -4,13 +4,13 @@
 // tools/original_list and tools/rebuild_list.py.
 #![tactic(auto)]
 
-ghost use Rattle.std.specs.Prelude.{◌<◌};
+ghost use Rattle.std.specs.Prelude.{◌<◌, IfOk};
 
-mod blocks;
+mod block_cases;
 mod calls;
 mod cases;
 mod fields;
-mod filters;
+mod filter_cases;
 mod finished;
 mod input;
 mod keyed;
@@ -23,6 +23,9 @@ mod walk;
 use input::Held;
 use keys::cmp::same;
 use runs::{BYTES, NUMBERS};
+use show::Out;
+use std::io;
+use std::io::{BufWriter, Stdin, Write};
 
 const CASES: u8 = 1;
 
@@ -55,42 +58,42 @@ fn kind_of(s: &[u8]) -> u8 {
 }
 
 // The start of a section, written back.
-fn start(s: &[u8]) -> Section {
-    show::say(s);
-    Section {
+fn start(to: &mut Out, s: &[u8]) -> io::Result<Section> {
+    show::say(to, s)?;
+    Ok(Section {
         kind: kind_of(s),
         len: 0,
-    }
+    })
 }
 
 // Answers a case, and says how long the loaded bytes then are.
-fn case(s: &[u8], section: Section, block: &mut [u8]) -> usize {
+fn case(to: &mut Out, s: &[u8], section: Section, block: &mut [u8]) -> io::Result<usize> {
     if section.kind == CASES {
-        return cases::answer(s, byte(s, 0), block, section.len);
+        return cases::answer(to, s, byte(s, 0), block, section.len);
     }
-    show::say(b" no section");
-    section.len
+    show::say(to, b" no section")?;
+    Ok(section.len)
 }
 
 // Answers a line that is no command of the builder.
-fn line(s: &[u8], section: Section, block: &mut [u8]) -> Section {
+fn line(to: &mut Out, s: &[u8], section: Section, block: &mut [u8]) -> io::Result<Section> {
     if s.len() == 0 {
-        return section;
+        return Ok(section);
     }
     let op = byte(s, 0);
     if op == b'#' {
-        return start(s);
+        return start(to, s);
     }
-    show::letter(op);
+    show::letter(to, op)?;
     if section.kind == CALLS {
-        return section;
+        return Ok(section);
     }
-    let len = case(s, section, block);
-    show::say(b"\n");
-    Section {
+    let len = case(to, s, section, block)?;
+    show::say(to, b"\n")?;
+    Ok(Section {
         kind: section.kind,
         len: len,
-    }
+    })
 }
 
 // The builder's command in a line, 0 for none.
@@ -99,19 +102,21 @@ fn command(s: &[u8], section: Section) -> u8 {
 }
 
 // How many lines may still follow, none after the last.
-fn left_after(left: usize, h: Held) -> usize
+fn left_after(to: &mut Out, left: usize, h: Held) -> io::Result<usize>
     requires { 0 < left }
-    ensures { result < left }
+    ensures { IfOk result (λ n. n < left) }
 {
     if h.at == h.end {
-        return 0;
+        return Ok(0);
     }
-    show::yes(left == 1, b"", b"the list is too long\n");
-    left - 1
+    show::yes(to, left == 1, b"", b"the list is too long\n")?;
+    Ok(left - 1)
 }
 
 // Answers line after line.
 fn all(
+    from: &mut Stdin,
+    to: &mut Out,
     list: &mut [u8; 65536],
     block: &mut [u8; 65536],
     out: &mut [u8; BYTES],
@@ -121,16 +126,17 @@ fn all(
     index_restarts: &mut [u32; NUMBERS],
     offsets: &mut [u32; NUMBERS],
     hashes: &mut [u32; NUMBERS],
-) {
+) -> io::Result<()> {
     let mut section = no_section();
     let mut rig = calls::no_rig();
     let mut h = input::nothing();
     let mut left: usize = 100000;
     while 0 < left {
-        h = input::next(list, h);
-        section = line(input::line(list, h), section, block);
+        h = input::next(from, to, list, h)?;
+        section = line(to, input::line(list, h), section, block)?;
         let op = command(input::line(list, h), section);
         rig = calls::answer(
+            to,
             input::line(list, h),
             op,
             rig,
@@ -141,12 +147,15 @@ fn all(
             index_restarts,
             offsets,
             hashes,
-        );
-        left = left_after(left, h);
+        )?;
+        left = left_after(to, left, h)?;
     }
+    Ok(())
 }
 
-fn main() {
+fn main(rt: HostRuntime) -> io::Result<()> {
+    let mut from = rt.stdin();
+    let mut to = BufWriter::new(rt.alloc(), rt.stdout())?;
     let mut list = [0u8; 65536];
     let mut block = [0u8; 65536];
     let mut out = [0u8; BYTES];
@@ -157,6 +166,8 @@ fn main() {
     let mut offsets = [0u32; NUMBERS];
     let mut hashes = [0u32; NUMBERS];
     all(
+        &mut from,
+        &mut to,
         &mut list,
         &mut block,
         &mut out,
@@ -166,5 +177,6 @@ fn main() {
         &mut index_restarts,
         &mut offsets,
         &mut hashes,
-    );
+    )?;
+    to.flush()
 }

@@ -1,6 +1,8 @@
 // The seven runs: filled, exchanged, and their checksums.
 use crate::fields::front;
 use crate::show;
+use crate::show::Out;
+use std::io;
 
 // How long the runs are, those of bytes and those of numbers.
 pub const BYTES: usize = 140000;
@@ -87,19 +89,19 @@ pub fn same(a: Seven, b: Seven) -> bool {
         && a.hashes == b.hashes
 }
 
-fn shown(x: u32) {
-    show::say(b" ");
-    show::word(x);
+fn shown(to: &mut Out, x: u32) -> io::Result<()> {
+    show::say(to, b" ")?;
+    show::word(to, x)
 }
 
-pub fn tell(a: Seven) {
-    shown(a.out);
-    shown(a.index);
-    shown(a.filters);
-    shown(a.restarts);
-    shown(a.index_restarts);
-    shown(a.offsets);
-    shown(a.hashes);
+pub fn tell(to: &mut Out, a: Seven) -> io::Result<()> {
+    shown(to, a.out)?;
+    shown(to, a.index)?;
+    shown(to, a.filters)?;
+    shown(to, a.restarts)?;
+    shown(to, a.index_restarts)?;
+    shown(to, a.offsets)?;
+    shown(to, a.hashes)
 }
 
 fn store(s: &mut [u8], i: usize, b: u8) {

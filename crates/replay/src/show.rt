@@ -1,90 +1,89 @@
 // Answers, written.
 use codec::put::Written;
-use libc::STDOUT_FILENO;
+use std::io;
+use std::io::{BufWriter, Stdout, Write};
 
-pub fn say(s: &[u8]) {
-    io::write_all(STDOUT_FILENO, s);
+// Where the answers go.
+pub type Out = BufWriter<Stdout>;
+
+pub fn say(to: &mut Out, s: &[u8]) -> io::Result<()> {
+    to.write_all(s)
 }
 
 // One answer or the other.
-pub fn yes(b: bool, other: &[u8], one: &[u8]) {
-    if b {
-        say(one);
-    } else {
-        say(other);
-    }
+pub fn yes(to: &mut Out, b: bool, other: &[u8], one: &[u8]) -> io::Result<()> {
+    if b { say(to, one) } else { say(to, other) }
 }
 
-pub fn letter(b: u8) {
+pub fn letter(to: &mut Out, b: u8) -> io::Result<()> {
     let one = [b];
-    say(&one);
+    say(to, &one)
 }
 
-pub fn number(n: usize) {
-    io::print_decimal(STDOUT_FILENO, n as u64);
+pub fn number(to: &mut Out, n: usize) -> io::Result<()> {
+    write!(to, "{n}")
 }
 
 // A number after a blank.
-pub fn spaced(n: usize) {
-    say(b" ");
-    number(n);
+pub fn spaced(to: &mut Out, n: usize) -> io::Result<()> {
+    say(to, b" ")?;
+    number(to, n)
 }
 
-pub fn number64(n: u64) {
-    io::print_decimal(STDOUT_FILENO, n);
+pub fn number64(to: &mut Out, n: u64) -> io::Result<()> {
+    write!(to, "{n}")
 }
 
-pub fn word(x: u32) {
-    io::print_hex(STDOUT_FILENO, x as u64, 8);
+pub fn word(to: &mut Out, x: u32) -> io::Result<()> {
+    write!(to, "{x:08x}")
 }
 
-fn byte(b: u8) {
-    io::print_hex(STDOUT_FILENO, b as u64, 2);
+fn byte(to: &mut Out, b: u8) -> io::Result<()> {
+    write!(to, "{b:02x}")
 }
 
-pub fn hex(s: &[u8]) {
+pub fn hex(to: &mut Out, s: &[u8]) -> io::Result<()> {
     let mut i: usize = 0;
     while i < s.len() {
-        byte(s[i]);
+        byte(to, s[i])?;
         i = i + 1;
     }
+    Ok(())
 }
 
 // Short bytes in hex, none and long ones by their length and checksum.
-pub fn shown(s: &[u8]) {
+pub fn shown(to: &mut Out, s: &[u8]) -> io::Result<()> {
     if 0 < s.len() && s.len() <= 40 {
-        hex(s);
+        hex(to, s)
     } else {
-        number(s.len());
-        say(b":");
-        word(checksum::crc::extend(0, s));
+        number(to, s.len())?;
+        say(to, b":")?;
+        word(to, checksum::crc::extend(0, s))
     }
 }
 
 // The part of s of so many bytes at a place.
-pub fn part(s: &[u8], at: usize, len: usize) {
+pub fn part(to: &mut Out, s: &[u8], at: usize, len: usize) -> io::Result<()> {
     if s.len() < at {
-        say(b"outside");
-        return;
+        return say(to, b"outside");
     }
     let rest = &s[at..];
     if rest.len() < len {
-        say(b"outside");
-        return;
+        return say(to, b"outside");
     }
-    shown(&rest[0..len]);
+    shown(to, &rest[0..len])
 }
 
 // What was written from a place on.
-pub fn written(run: &[u8], from: usize, w: Written) {
+pub fn written(to: &mut Out, run: &[u8], from: usize, w: Written) -> io::Result<()> {
     match w {
-        Written::NoRoom => say(b" no room"),
+        Written::NoRoom => say(to, b" no room"),
         Written::At(next) => {
-            say(b" ");
+            say(to, b" ")?;
             if from <= next {
-                part(run, from, next - from);
+                part(to, run, from, next - from)
             } else {
-                say(b"outside");
+                say(to, b"outside")
             }
         }
     }
@@ -103,14 +102,10 @@ pub fn untouched(s: &[u8]) -> bool {
 }
 
 // A write that lacks a byte has to leave the run as it was and say so.
-pub fn refused(run: &[u8], w: Written) {
+pub fn refused(to: &mut Out, run: &[u8], w: Written) -> io::Result<()> {
     match w {
-        Written::NoRoom => {
-            if untouched(run) {} else {
-                say(b" changed");
-            }
-        }
-        Written::At(_) => say(b" taken"),
+        Written::NoRoom => kept(to, run),
+        Written::At(_) => say(to, b" taken"),
     }
 }
 
@@ -136,24 +131,25 @@ pub fn some(from: usize, w: Written) -> bool {
     }
 }
 
-pub fn kept(run: &[u8]) {
-    if untouched(run) {} else {
-        say(b" changed");
+pub fn kept(to: &mut Out, run: &[u8]) -> io::Result<()> {
+    if untouched(run) {
+        Ok(())
+    } else {
+        say(to, b" changed")
     }
 }
 
 // The key buffer has to be as it was where no entry is given.
-pub fn nothing(word: &[u8], run: &[u8]) {
-    say(word);
-    kept(run);
+pub fn nothing(to: &mut Out, word: &[u8], run: &[u8]) -> io::Result<()> {
+    say(to, word)?;
+    kept(to, run)
 }
 
 // A key at the front of a run of 1,032 that was full of ee: the rest has to be as it was.
-pub fn key(run: &[u8], len: usize) {
+pub fn key(to: &mut Out, run: &[u8], len: usize) -> io::Result<()> {
     if run.len() < len {
-        say(b"outside");
-        return;
+        return say(to, b"outside");
     }
-    shown(&run[0..len]);
-    kept(&run[len..]);
+    shown(to, &run[0..len])?;
+    kept(to, &run[len..])
 }

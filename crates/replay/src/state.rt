@@ -1,8 +1,10 @@
 // The builder's state: its numbers shown, its checksum, and a field of it set to a number.
 use crate::show;
+use crate::show::Out;
 use block_builder::block_builder::BlockBuilder;
 use bloom::filter::Filter;
 use builder::table_builder::{Builder, Lengths, Options};
+use std::io;
 
 // A filter by a number: none, or one bit less than the number.
 pub fn choice(n: usize) -> Filter {
@@ -73,48 +75,48 @@ pub fn sum(b: Builder) -> u32 {
 }
 
 // A block's numbers, and its last key.
-fn tell_block(b: BlockBuilder) {
-    show::spaced(b.interval);
-    show::spaced(b.bytes);
-    show::spaced(b.restarts);
-    show::spaced(b.since);
-    show::say(b" ");
+fn tell_block(to: &mut Out, b: BlockBuilder) -> io::Result<()> {
+    show::spaced(to, b.interval)?;
+    show::spaced(to, b.bytes)?;
+    show::spaced(to, b.restarts)?;
+    show::spaced(to, b.since)?;
+    show::say(to, b" ")?;
     let last = b.last;
-    show::part(&last, 0, b.len);
+    show::part(to, &last, 0, b.len)
 }
 
-fn tell_options(o: Options) {
+fn tell_options(to: &mut Out, o: Options) -> io::Result<()> {
     let f = o.filter;
-    show::spaced(o.interval);
-    show::spaced(o.block_size);
-    show::spaced(number_of(f));
+    show::spaced(to, o.interval)?;
+    show::spaced(to, o.block_size)?;
+    show::spaced(to, number_of(f))
 }
 
-fn tell_lengths(l: Lengths) {
-    show::spaced(l.out);
-    show::spaced(l.index);
-    show::spaced(l.filters);
-    show::spaced(l.restarts);
-    show::spaced(l.index_restarts);
-    show::spaced(l.offsets);
-    show::spaced(l.hashes);
+fn tell_lengths(to: &mut Out, l: Lengths) -> io::Result<()> {
+    show::spaced(to, l.out)?;
+    show::spaced(to, l.index)?;
+    show::spaced(to, l.filters)?;
+    show::spaced(to, l.restarts)?;
+    show::spaced(to, l.index_restarts)?;
+    show::spaced(to, l.offsets)?;
+    show::spaced(to, l.hashes)
 }
 
 // All that a state holds but what lies behind the last keys.
-pub fn tell(b: Builder) {
+pub fn tell(to: &mut Out, b: Builder) -> io::Result<()> {
     let options = b.options;
     let lengths = b.lengths;
     let pending = b.pending;
     let indexed = b.indexed;
-    tell_options(options);
-    tell_lengths(lengths);
-    show::spaced(b.written);
-    tell_block(pending);
-    tell_block(indexed);
-    show::spaced(b.filtered);
-    show::spaced(b.made);
-    show::spaced(b.waiting);
-    show::spaced(flag(b.finished));
+    tell_options(to, options)?;
+    tell_lengths(to, lengths)?;
+    show::spaced(to, b.written)?;
+    tell_block(to, pending)?;
+    tell_block(to, indexed)?;
+    show::spaced(to, b.filtered)?;
+    show::spaced(to, b.made)?;
+    show::spaced(to, b.waiting)?;
+    show::spaced(to, flag(b.finished))
 }
 
 // Options with a field set: 0 interval, 1 block size, 2 filter.

@@ -1,11 +1,13 @@
 // Commands on tables: the full check and the reads, of the loaded bytes.
 use crate::fields::front;
+use crate::show::Out;
 use crate::walk::{Over, Walked};
 use crate::{fields, show, walk};
 use full_check::check;
 use full_check::check::Verdict;
 use reader::table_reader;
 use reader::table_reader::{Entry, Found, Place, Sought};
+use std::io;
 
 pub fn knows(op: u8) -> bool {
     op == b'V'
@@ -19,56 +21,56 @@ pub fn knows(op: u8) -> bool {
         || op == b'Y'
 }
 
-fn refusal(n: u32) {
-    show::say(b" ");
-    show::number64(n as u64);
+fn refusal(to: &mut Out, n: u32) -> io::Result<()> {
+    show::say(to, b" ")?;
+    show::number64(to, n as u64)
 }
 
-fn verdict(t: &[u8]) {
+fn verdict(to: &mut Out, t: &[u8]) -> io::Result<()> {
     match check::check(t) {
-        Verdict::Pass => show::say(b" pass"),
-        Verdict::Refused(n) => refusal(n),
+        Verdict::Pass => show::say(to, b" pass"),
+        Verdict::Refused(n) => refusal(to, n),
     }
 }
 
 // An entry: its place, its key, where its value starts, and the value.
-fn entry(t: &[u8], key: &[u8], e: Entry) {
+fn entry(to: &mut Out, t: &[u8], key: &[u8], e: Entry) -> io::Result<()> {
     let place = e.place;
-    show::spaced(place.index);
-    show::spaced(place.entry);
-    show::say(b" ");
-    show::key(key, e.key_len);
-    show::say(b" at ");
-    show::number(e.value_at);
-    show::say(b" ");
-    show::shown(table_reader::value(t, e));
+    show::spaced(to, place.index)?;
+    show::spaced(to, place.entry)?;
+    show::say(to, b" ")?;
+    show::key(to, key, e.key_len)?;
+    show::say(to, b" at ")?;
+    show::number(to, e.value_at)?;
+    show::say(to, b" ")?;
+    show::shown(to, table_reader::value(t, e))
 }
 
 // A refusal's number; the key buffer has to be as it was.
-fn refused(key: &[u8], n: u32) {
-    refusal(n);
-    show::kept(key);
+fn refused(to: &mut Out, key: &[u8], n: u32) -> io::Result<()> {
+    refusal(to, n)?;
+    show::kept(to, key)
 }
 
-fn sought(t: &[u8], key: &[u8], r: Sought) {
+fn sought(to: &mut Out, t: &[u8], key: &[u8], r: Sought) -> io::Result<()> {
     match r {
-        Sought::Refused(n) => refused(key, n),
-        Sought::None => show::nothing(b" none", key),
-        Sought::Entry(e) => entry(t, key, e),
+        Sought::Refused(n) => refused(to, key, n),
+        Sought::None => show::nothing(to, b" none", key),
+        Sought::Entry(e) => entry(to, t, key, e),
     }
 }
 
-fn deleted(t: &[u8], key: &[u8], e: Entry) {
-    show::say(b" deleted");
-    entry(t, key, e);
+fn deleted(to: &mut Out, t: &[u8], key: &[u8], e: Entry) -> io::Result<()> {
+    show::say(to, b" deleted")?;
+    entry(to, t, key, e)
 }
 
-fn found(t: &[u8], key: &[u8], r: Found) {
+fn found(to: &mut Out, t: &[u8], key: &[u8], r: Found) -> io::Result<()> {
     match r {
-        Found::Refused(n) => refused(key, n),
-        Found::Absent => show::nothing(b" absent", key),
-        Found::Entry(e) => entry(t, key, e),
-        Found::Deleted(e) => deleted(t, key, e),
+        Found::Refused(n) => refused(to, key, n),
+        Found::Absent => show::nothing(to, b" absent", key),
+        Found::Entry(e) => entry(to, t, key, e),
+        Found::Deleted(e) => deleted(to, t, key, e),
     }
 }
 
@@ -102,7 +104,7 @@ fn step_with(t: &[u8], index: usize, start: usize, run: &mut [u8], room: usize) 
 }
 
 // A seek of a word and an edition, with a key buffer of so many bytes.
-fn seek(s: &[u8], at: usize, t: &[u8]) {
+fn seek(to: &mut Out, s: &[u8], at: usize, t: &[u8]) -> io::Result<()> {
     let mut w = [0u8; 1100];
     let mut key = [0xee_u8; 1100];
     let f = fields::field(s, at, &mut w);
@@ -115,10 +117,10 @@ fn seek(s: &[u8], at: usize, t: &[u8]) {
         &mut key,
         room.value,
     );
-    sought(t, &key, r);
+    sought(to, t, &key, r)
 }
 
-fn lookup(s: &[u8], at: usize, t: &[u8]) {
+fn lookup(to: &mut Out, s: &[u8], at: usize, t: &[u8]) -> io::Result<()> {
     let mut w = [0u8; 1100];
     let mut key = [0xee_u8; 1100];
     let f = fields::field(s, at, &mut w);
@@ -131,17 +133,17 @@ fn lookup(s: &[u8], at: usize, t: &[u8]) {
         &mut key,
         room.value,
     );
-    found(t, &key, r);
+    found(to, t, &key, r)
 }
 
 // A step from a place, with a key buffer of so many bytes.
-fn step(s: &[u8], at: usize, t: &[u8]) {
+fn step(to: &mut Out, s: &[u8], at: usize, t: &[u8]) -> io::Result<()> {
     let mut key = [0xee_u8; 1100];
     let index = fields::number(s, at);
     let start = fields::number(s, index.next);
     let room = fields::number(s, start.next);
     let r = step_with(t, index.value, start.value, &mut key, room.value);
-    sought(t, &key, r);
+    sought(to, t, &key, r)
 }
 
 // The first entry of a walk, or the one after a place.
@@ -165,21 +167,21 @@ pub fn going(e: Entry, sum: u32) -> Walked {
 }
 
 // One entry of a walk, shown if it is among the first six.
-pub fn visit(t: &[u8], key: &[u8], r: Sought, n: usize) -> Walked {
+pub fn visit(to: &mut Out, t: &[u8], key: &[u8], r: Sought, n: usize) -> io::Result<Walked> {
     match r {
         Sought::Refused(x) => {
-            refused(key, x);
-            walk::nowhere(0)
+            refused(to, key, x)?;
+            Ok(walk::nowhere(0))
         }
         Sought::None => {
-            show::kept(key);
-            walk::nowhere(0)
+            show::kept(to, key)?;
+            Ok(walk::nowhere(0))
         }
         Sought::Entry(e) => {
             if n < 6 {
-                entry(t, key, e);
+                entry(to, t, key, e)?;
             }
-            going(e, 0)
+            Ok(going(e, 0))
         }
     }
 }
@@ -236,68 +238,69 @@ fn onward(r: Sought) -> Walked {
     }
 }
 
-fn other(may: bool) {
-    show::yes(may, b" other", b"");
+fn other(to: &mut Out, may: bool) -> io::Result<()> {
+    show::yes(to, may, b" other", b"")
 }
 
-fn any_seek(t: &[u8], word: &[u8], edition: u64) -> Walked {
+fn any_seek(to: &mut Out, t: &[u8], word: &[u8], edition: u64) -> io::Result<Walked> {
     let mut key = [0xee_u8; 1032];
     let r = table_reader::seek(t, word, edition, &mut key);
-    other(may_seek(t, &key, r));
-    onward(r)
+    other(to, may_seek(t, &key, r))?;
+    Ok(onward(r))
 }
 
-fn any_lookup(t: &[u8], word: &[u8], edition: u64) {
+fn any_lookup(to: &mut Out, t: &[u8], word: &[u8], edition: u64) -> io::Result<()> {
     let mut key = [0xee_u8; 1032];
     let r = table_reader::lookup(t, word, edition, &mut key);
-    other(may_find(t, &key, r));
+    other(to, may_find(t, &key, r))
 }
 
-fn any_step(t: &[u8], index: usize, start: usize) -> Walked {
+fn any_step(to: &mut Out, t: &[u8], index: usize, start: usize) -> io::Result<Walked> {
     let mut key = [0xee_u8; 1032];
     let r = step_with(t, index, start, &mut key, 1032);
-    other(may_seek(t, &key, r));
-    onward(r)
+    other(to, may_seek(t, &key, r))?;
+    Ok(onward(r))
 }
 
 // Reads any bytes: a lookup, a seek, and some steps from there. An answer that no table allows is told.
-fn any_reads(t: &[u8], word: &[u8], edition: u64) {
-    any_lookup(t, word, edition);
-    let mut w = any_seek(t, word, edition);
+fn any_reads(to: &mut Out, t: &[u8], word: &[u8], edition: u64) -> io::Result<()> {
+    any_lookup(to, t, word, edition)?;
+    let mut w = any_seek(to, t, word, edition)?;
     let mut n: usize = 0;
     while n < 16 && w.more {
         n = n + 1;
-        w = any_step(t, w.index, w.entry);
+        w = any_step(to, t, w.index, w.entry)?;
     }
+    Ok(())
 }
 
 // The same, and a step from a place.
-fn any(s: &[u8], at: usize, t: &[u8]) {
+fn any(to: &mut Out, s: &[u8], at: usize, t: &[u8]) -> io::Result<()> {
     let mut w = [0u8; 1100];
     let f = fields::field(s, at, &mut w);
     let edition = fields::number(s, f.next);
     let index = fields::number(s, edition.next);
     let start = fields::number(s, index.next);
-    any_reads(t, front(&w, f.len), edition.value as u64);
-    any_step(t, index.value, start.value);
-    show::say(b" allowed");
+    any_reads(to, t, front(&w, f.len), edition.value as u64)?;
+    any_step(to, t, index.value, start.value)?;
+    show::say(to, b" allowed")
 }
 
 // What a lookup answers on a table that passes.
-fn passed(t: &[u8], word: &[u8], edition: u64) {
+fn passed(to: &mut Out, t: &[u8], word: &[u8], edition: u64) -> io::Result<()> {
     let mut key = [0xee_u8; 1032];
-    show::say(b" pass");
+    show::say(to, b" pass")?;
     let r = table_reader::lookup(t, word, edition, &mut key);
-    found(t, &key, r);
+    found(to, t, &key, r)
 }
 
 // The verdict on a table, and reads of it.
-fn tried(t: &[u8], word: &[u8], edition: u64) {
+fn tried(to: &mut Out, t: &[u8], word: &[u8], edition: u64) -> io::Result<()> {
     match check::check(t) {
-        Verdict::Pass => passed(t, word, edition),
-        Verdict::Refused(n) => refusal(n),
+        Verdict::Pass => passed(to, t, word, edition)?,
+        Verdict::Refused(n) => refusal(to, n)?,
     }
-    any_reads(t, word, edition);
+    any_reads(to, t, word, edition)
 }
 
 // A part of a table, and whether it is a block that is sealed anew after a change.
@@ -322,14 +325,25 @@ fn change(out: &mut [u8], i: usize, bits: u8, part: Part) {
 }
 
 // The table with a byte of a part changed; then it is as it was.
-fn changed(out: &mut [u8], len: usize, i: usize, bits: u8, part: Part, word: &[u8], edition: u64) {
+fn changed(
+    to: &mut Out,
+    out: &mut [u8],
+    len: usize,
+    i: usize,
+    bits: u8,
+    part: Part,
+    word: &[u8],
+    edition: u64,
+) -> io::Result<()> {
     change(out, i, bits, part);
-    tried(front(out, len), word, edition);
+    let told = tried(to, front(out, len), word, edition);
     change(out, i, bits, part);
+    told
 }
 
 // Every byte of a part changed in turn.
 fn each_byte(
+    to: &mut Out,
     out: &mut [u8],
     len: usize,
     end: usize,
@@ -337,24 +351,26 @@ fn each_byte(
     part: Part,
     word: &[u8],
     edition: u64,
-) {
+) -> io::Result<()> {
     let mut i = part.at;
     while i < end {
-        changed(out, len, i, bits, part, word, edition);
+        changed(to, out, len, i, bits, part, word, edition)?;
         i = i + 1;
     }
+    Ok(())
 }
 
 // Every shorter length.
-fn each_length(t: &[u8], word: &[u8], edition: u64) {
+fn each_length(to: &mut Out, t: &[u8], word: &[u8], edition: u64) -> io::Result<()> {
     let mut n: usize = 0;
     while n < t.len() {
-        tried(front(t, n), word, edition);
+        tried(to, front(t, n), word, edition)?;
         n = n + 1;
     }
+    Ok(())
 }
 
-fn bytes(s: &[u8], at: usize, out: &mut [u8], len: usize) {
+fn bytes(to: &mut Out, s: &[u8], at: usize, out: &mut [u8], len: usize) -> io::Result<()> {
     let mut w = [0u8; 1100];
     let bits = fields::number(s, at);
     let f = fields::field(s, bits.next, &mut w);
@@ -365,6 +381,7 @@ fn bytes(s: &[u8], at: usize, out: &mut [u8], len: usize) {
         sealed: false,
     };
     each_byte(
+        to,
         out,
         len,
         len,
@@ -372,7 +389,7 @@ fn bytes(s: &[u8], at: usize, out: &mut [u8], len: usize) {
         part,
         front(&w, f.len),
         edition.value as u64,
-    );
+    )
 }
 
 // Where a block ends, as far as there are bytes.
@@ -386,7 +403,7 @@ fn end_of(at: usize, size: usize) -> usize {
     at + size
 }
 
-fn sealed(s: &[u8], at: usize, out: &mut [u8], len: usize) {
+fn sealed(to: &mut Out, s: &[u8], at: usize, out: &mut [u8], len: usize) -> io::Result<()> {
     let mut w = [0u8; 1100];
     let from = fields::number(s, at);
     let size = fields::number(s, from.next);
@@ -399,6 +416,7 @@ fn sealed(s: &[u8], at: usize, out: &mut [u8], len: usize) {
         sealed: true,
     };
     each_byte(
+        to,
         out,
         len,
         end_of(from.value, size.value),
@@ -406,53 +424,53 @@ fn sealed(s: &[u8], at: usize, out: &mut [u8], len: usize) {
         part,
         front(&w, f.len),
         edition.value as u64,
-    );
+    )
 }
 
-fn lengths(s: &[u8], at: usize, t: &[u8]) {
+fn lengths(to: &mut Out, s: &[u8], at: usize, t: &[u8]) -> io::Result<()> {
     let mut w = [0u8; 1100];
     let f = fields::field(s, at, &mut w);
     let edition = fields::number(s, f.next);
-    each_length(t, front(&w, f.len), edition.value as u64);
+    each_length(to, t, front(&w, f.len), edition.value as u64)
 }
 
 // Commands that only read the table.
-fn ask(s: &[u8], at: usize, op: u8, t: &[u8]) {
+fn ask(to: &mut Out, s: &[u8], at: usize, op: u8, t: &[u8]) -> io::Result<()> {
     if op == b'V' {
-        verdict(t);
-        return;
+        return verdict(to, t);
     }
     if op == b'J' {
-        seek(s, at, t);
-        return;
+        return seek(to, s, at, t);
     }
     if op == b'Q' {
-        lookup(s, at, t);
-        return;
+        return lookup(to, s, at, t);
     }
     if op == b'P' {
-        step(s, at, t);
-        return;
+        return step(to, s, at, t);
     }
     if op == b'U' {
-        walk::walk(Over::Table, t);
-        return;
+        walk::walk(to, Over::Table, t)?;
+        return Ok(());
     }
     if op == b'I' {
-        any(s, at, t);
-        return;
+        return any(to, s, at, t);
     }
-    lengths(s, at, t);
+    lengths(to, s, at, t)
 }
 
-pub fn answer(s: &[u8], at: usize, op: u8, out: &mut [u8], len: usize) {
+pub fn answer(
+    to: &mut Out,
+    s: &[u8],
+    at: usize,
+    op: u8,
+    out: &mut [u8],
+    len: usize,
+) -> io::Result<()> {
     if op == b'X' {
-        bytes(s, at, out, len);
-        return;
+        return bytes(to, s, at, out, len);
     }
     if op == b'R' {
-        sealed(s, at, out, len);
-        return;
+        return sealed(to, s, at, out, len);
     }
-    ask(s, at, op, front(out, len));
+    ask(to, s, at, op, front(out, len))
 }

@@ -1,5 +1,7 @@
 // Walks by the calls alone, all by one loop: a block's entries by first and next, a table's by a seek of the least target and steps.
-use crate::{blocks, finished, show, tables};
+use crate::show::Out;
+use crate::{block_cases, finished, show, tables};
+use std::io;
 
 // What is walked over, and how it is told: a block or a table by its first entries, a finished table by one checksum of all.
 #[derive(Clone, Copy)]
@@ -29,33 +31,33 @@ pub fn nowhere(sum: u32) -> Walked {
 }
 
 // The entry of a number: the first, or the one after a place.
-fn next(over: Over, s: &[u8], w: Walked, n: usize) -> Walked {
+fn next(to: &mut Out, over: Over, s: &[u8], w: Walked, n: usize) -> io::Result<Walked> {
     let mut key = [0xee_u8; 1032];
     match over {
         Over::Block => {
-            let f = blocks::reached(s, w.entry, n, &mut key);
-            blocks::visit(s, f, &key, n)
+            let f = block_cases::reached(s, w.entry, n, &mut key);
+            block_cases::visit(to, s, f, &key, n)
         }
         Over::Table => {
             let r = tables::reached(s, w, n, &mut key);
-            tables::visit(s, &key, r, n)
+            tables::visit(to, s, &key, r, n)
         }
         Over::Finished => {
             let r = tables::reached(s, w, n, &mut key);
-            finished::visit(w.sum, s, &key, r)
+            finished::visit(to, w.sum, s, &key, r)
         }
     }
 }
 
 // All entries: how many there are, and the end.
-pub fn walk(over: Over, s: &[u8]) -> Walked {
-    let mut w = next(over, s, nowhere(0), 0);
+pub fn walk(to: &mut Out, over: Over, s: &[u8]) -> io::Result<Walked> {
+    let mut w = next(to, over, s, nowhere(0), 0)?;
     let mut n: usize = 0;
     while n < 65536 && w.more {
         n = n + 1;
-        w = next(over, s, w, n);
+        w = next(to, over, s, w, n)?;
     }
-    show::say(b" of ");
-    show::number(n);
-    w
+    show::say(to, b" of ")?;
+    show::number(to, n)?;
+    Ok(w)
 }

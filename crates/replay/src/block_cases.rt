@@ -1,11 +1,13 @@
 // Commands on blocks: one is built or loaded, and the others damage it or read it. What is loaded may be a table as well.
 use crate::fields::front;
+use crate::show::Out;
 use crate::walk::{Over, Walked};
 use crate::{fields, show, walk};
 use block_builder::block_builder::BlockBuilder;
 use block_reader::block as rows;
 use block_reader::block::{EntryRead, Found, Kind, Which};
 use codec::put::Written;
+use std::io;
 
 #[derive(Clone, Copy)]
 struct Grown {
@@ -14,65 +16,80 @@ struct Grown {
 }
 
 // Adds the key and the value at a place of the line.
-fn add(b: BlockBuilder, s: &[u8], at: usize, out: &mut [u8], restarts: &mut [u32]) -> Grown {
+fn add(
+    to: &mut Out,
+    b: BlockBuilder,
+    s: &[u8],
+    at: usize,
+    out: &mut [u8],
+    restarts: &mut [u32],
+) -> io::Result<Grown> {
     let mut k = [0u8; 1100];
     let mut v = [0u8; 33000];
     let fk = fields::field(s, at, &mut k);
     let fv = fields::field(s, fk.next, &mut v);
     let r = b.add(out, 0, restarts, front(&k, fk.len), front(&v, fv.len));
-    show::yes(r.fits, b" refused", b"");
+    show::yes(to, r.fits, b" refused", b"")?;
     let grown = r.block;
-    Grown {
+    Ok(Grown {
         next: fv.next,
         block: grown,
-    }
+    })
 }
 
 // Adds one after the other, up to the end of the line.
 fn add_all(
+    to: &mut Out,
     s: &[u8],
     at: usize,
     interval: usize,
     out: &mut [u8],
     restarts: &mut [u32],
-) -> BlockBuilder {
+) -> io::Result<BlockBuilder> {
     let mut b = BlockBuilder::new(interval);
     let mut i = at;
     let mut n: usize = 0;
     while n < 65536 && i < s.len() {
-        let r = add(b, s, i, out, restarts);
+        let r = add(to, b, s, i, out, restarts)?;
         let grown = r.block;
         b = grown;
         i = r.next;
         n = n + 1;
     }
-    b
+    Ok(b)
 }
 
 // The block finished, and how long it is.
-fn finished(b: BlockBuilder, out: &mut [u8], restarts: &[u32]) -> usize {
+fn finished(to: &mut Out, b: BlockBuilder, out: &mut [u8], restarts: &[u32]) -> io::Result<usize> {
     let estimate = b.size_estimate();
     match b.finish(out, 0, restarts) {
         Written::NoRoom => {
-            show::say(b" no room");
-            0
+            show::say(to, b" no room")?;
+            Ok(0)
         }
         Written::At(n) => {
-            show::say(b" ");
-            show::part(out, 0, n);
-            show::yes(estimate == n, b" not the size", b"");
-            n
+            show::say(to, b" ")?;
+            show::part(to, out, 0, n)?;
+            show::yes(to, estimate == n, b" not the size", b"")?;
+            Ok(n)
         }
     }
 }
 
-fn built(s: &[u8], at: usize, interval: usize, out: &mut [u8], restarts: &mut [u32]) -> usize {
-    let b = add_all(s, at, interval, out, restarts);
-    finished(b, out, restarts)
+fn built(
+    to: &mut Out,
+    s: &[u8],
+    at: usize,
+    interval: usize,
+    out: &mut [u8],
+    restarts: &mut [u32],
+) -> io::Result<usize> {
+    let b = add_all(to, s, at, interval, out, restarts)?;
+    finished(to, b, out, restarts)
 }
 
 // A block at an interval, in runs of so many bytes and so many restarts.
-fn build(s: &[u8], at: usize, out: &mut [u8]) -> usize {
+fn build(to: &mut Out, s: &[u8], at: usize, out: &mut [u8]) -> io::Result<usize> {
     let interval = fields::number(s, at);
     let bytes = fields::number(s, interval.next);
     let marks = fields::number(s, bytes.next);
@@ -81,6 +98,7 @@ fn build(s: &[u8], at: usize, out: &mut [u8]) -> usize {
     let mut restarts = [0u32; 2048];
     if room <= out.len() && numbers <= 2048 {
         built(
+            to,
             s,
             marks.next,
             interval.value,
@@ -88,14 +106,14 @@ fn build(s: &[u8], at: usize, out: &mut [u8]) -> usize {
             &mut restarts[0..numbers],
         )
     } else {
-        0
+        Ok(0)
     }
 }
 
-fn load(s: &[u8], at: usize, out: &mut [u8]) -> usize {
+fn load(to: &mut Out, s: &[u8], at: usize, out: &mut [u8]) -> io::Result<usize> {
     let f = fields::field(s, at, out);
-    show::spaced(f.len);
-    f.len
+    show::spaced(to, f.len)?;
+    Ok(f.len)
 }
 
 fn damage(s: &[u8], at: usize, out: &mut [u8]) {
@@ -116,55 +134,63 @@ fn patch(s: &[u8], at: usize, out: &mut [u8]) {
     }
 }
 
-fn formed(b: &[u8], kind: Kind) {
-    show::yes(rows::is_formed(b, kind), b" 0", b" 1");
+fn formed(to: &mut Out, b: &[u8], kind: Kind) -> io::Result<()> {
+    show::yes(to, rows::is_formed(b, kind), b" 0", b" 1")
 }
 
-fn kinds(b: &[u8]) {
-    formed(b, Kind::Data);
-    formed(b, Kind::Index);
-    formed(b, Kind::Metaindex);
+fn kinds(to: &mut Out, b: &[u8]) -> io::Result<()> {
+    formed(to, b, Kind::Data)?;
+    formed(to, b, Kind::Index)?;
+    formed(to, b, Kind::Metaindex)
 }
 
 // An entry: where it starts, its key, where its value starts, and the value.
-fn entry(b: &[u8], key: &[u8], start: usize, key_len: usize, value_at: usize, value_len: usize) {
-    show::spaced(start);
-    show::say(b" ");
-    show::key(key, key_len);
-    show::say(b" at ");
-    show::number(value_at);
-    show::say(b" ");
-    show::part(b, value_at, value_len);
+fn entry(
+    to: &mut Out,
+    b: &[u8],
+    key: &[u8],
+    start: usize,
+    key_len: usize,
+    value_at: usize,
+    value_len: usize,
+) -> io::Result<()> {
+    show::spaced(to, start)?;
+    show::say(to, b" ")?;
+    show::key(to, key, key_len)?;
+    show::say(to, b" at ")?;
+    show::number(to, value_at)?;
+    show::say(to, b" ")?;
+    show::part(to, b, value_at, value_len)
 }
 
-fn found(b: &[u8], key: &[u8], f: Found) {
+fn found(to: &mut Out, b: &[u8], key: &[u8], f: Found) -> io::Result<()> {
     match f {
-        Found::None => show::nothing(b" none", key),
-        Found::NoPlace => show::nothing(b" no place", key),
-        Found::Bad => show::nothing(b" bad", key),
+        Found::None => show::nothing(to, b" none", key),
+        Found::NoPlace => show::nothing(to, b" no place", key),
+        Found::Bad => show::nothing(to, b" bad", key),
         Found::Entry {
             start,
             key_len,
             value_at,
             value_len,
-        } => entry(b, key, start, key_len, value_at, value_len),
+        } => entry(to, b, key, start, key_len, value_at, value_len),
     }
 }
 
-fn seek(s: &[u8], at: usize, b: &[u8]) {
+fn seek(to: &mut Out, s: &[u8], at: usize, b: &[u8]) -> io::Result<()> {
     let mut w = [0u8; 1100];
     let mut key = [0xee_u8; 1032];
     let f = fields::field(s, at, &mut w);
     let sequence = fields::number(s, f.next);
     let r = rows::seek(b, front(&w, f.len), sequence.value as u64, &mut key);
-    found(b, &key, r);
+    found(to, b, &key, r)
 }
 
-fn next(s: &[u8], at: usize, b: &[u8]) {
+fn next(to: &mut Out, s: &[u8], at: usize, b: &[u8]) -> io::Result<()> {
     let mut key = [0xee_u8; 1032];
     let place = fields::number(s, at);
     let r = rows::by_place(b, place.value, Which::After, &mut key);
-    found(b, &key, r);
+    found(to, b, &key, r)
 }
 
 // The first entry of a walk, or the one after a place.
@@ -177,7 +203,7 @@ pub fn reached(b: &[u8], at: usize, n: usize, key: &mut [u8]) -> Found {
 }
 
 // One entry of a walk, shown if it is among the first six.
-pub fn visit(b: &[u8], f: Found, key: &[u8], n: usize) -> Walked {
+pub fn visit(to: &mut Out, b: &[u8], f: Found, key: &[u8], n: usize) -> io::Result<Walked> {
     match f {
         Found::Entry {
             start,
@@ -186,20 +212,20 @@ pub fn visit(b: &[u8], f: Found, key: &[u8], n: usize) -> Walked {
             value_len,
         } => {
             if n < 6 {
-                entry(b, key, start, key_len, value_at, value_len);
+                entry(to, b, key, start, key_len, value_at, value_len)?;
             }
-            Walked {
+            Ok(Walked {
                 more: true,
                 index: 0,
                 entry: start,
                 sum: 0,
-            }
+            })
         }
-        Found::None => walk::nowhere(0),
-        Found::NoPlace => walk::nowhere(0),
+        Found::None => Ok(walk::nowhere(0)),
+        Found::NoPlace => Ok(walk::nowhere(0)),
         Found::Bad => {
-            show::say(b" bad");
-            walk::nowhere(0)
+            show::say(to, b" bad")?;
+            Ok(walk::nowhere(0))
         }
     }
 }
@@ -225,106 +251,110 @@ fn inside(b: &[u8], f: Found) -> bool {
 }
 
 // Reads any bytes: a seek, and the entry after each place. What is found has to lie in them.
-fn any(s: &[u8], at: usize, b: &[u8]) {
+fn any(to: &mut Out, s: &[u8], at: usize, b: &[u8]) -> io::Result<()> {
     let mut w = [0u8; 1100];
     let mut key = [0u8; 1032];
     let f = fields::field(s, at, &mut w);
     let r = rows::seek(b, front(&w, f.len), 7, &mut key);
-    show::yes(inside(b, r), b" outside", b" inside");
-    every(b);
+    show::yes(to, inside(b, r), b" outside", b" inside")?;
+    every(to, b)
 }
 
-fn every(b: &[u8]) {
+fn every(to: &mut Out, b: &[u8]) -> io::Result<()> {
     let mut at: usize = 0;
     while at < b.len() {
-        after(b, at);
+        after(to, b, at)?;
         at = at + 1;
     }
+    Ok(())
 }
 
-fn after(b: &[u8], at: usize) {
+fn after(to: &mut Out, b: &[u8], at: usize) -> io::Result<()> {
     let mut key = [0u8; 1032];
     let f = rows::by_place(b, at, Which::After, &mut key);
-    show::yes(inside(b, f), b" outside", b"");
+    show::yes(to, inside(b, f), b" outside", b"")
 }
 
 // The entry that starts some bytes, after a key of so many; then the whole key buffer.
-fn read(s: &[u8], at: usize) {
+fn read(to: &mut Out, s: &[u8], at: usize) -> io::Result<()> {
     let mut rest = [0u8; 1100];
     let mut key = [0xee_u8; 1032];
     let fr = fields::field(s, at, &mut rest);
     let fk = fields::field(s, fr.next, &mut key);
     let n = fields::number(s, fk.next);
     let r = rows::read_entry(front(&rest, fr.len), &mut key, n.value);
-    told(front(&rest, fr.len), r);
-    show::say(b" ");
-    show::shown(&key);
+    told(to, front(&rest, fr.len), r)?;
+    show::say(to, b" ")?;
+    show::shown(to, &key)
 }
 
-fn told(rest: &[u8], r: EntryRead) {
+fn told(to: &mut Out, rest: &[u8], r: EntryRead) -> io::Result<()> {
     match r {
-        EntryRead::Bad => show::say(b" bad"),
+        EntryRead::Bad => show::say(to, b" bad"),
         EntryRead::Entry {
             shared,
             key_len,
             value_at,
             value_len,
         } => {
-            show::spaced(shared);
-            show::spaced(key_len);
-            show::say(b" at ");
-            show::number(value_at);
-            show::say(b" ");
-            show::part(rest, value_at, value_len);
+            show::spaced(to, shared)?;
+            show::spaced(to, key_len)?;
+            show::say(to, b" at ")?;
+            show::number(to, value_at)?;
+            show::say(to, b" ")?;
+            show::part(to, rest, value_at, value_len)
         }
     }
 }
 
 // Commands that read the loaded block.
-fn ask(s: &[u8], at: usize, op: u8, b: &[u8]) {
+fn ask(to: &mut Out, s: &[u8], at: usize, op: u8, b: &[u8]) -> io::Result<()> {
     if op == b'W' {
-        walk::walk(Over::Block, b);
-        return;
+        walk::walk(to, Over::Block, b)?;
+        return Ok(());
     }
     if op == b'F' {
-        kinds(b);
-        return;
+        return kinds(to, b);
     }
     if op == b'S' {
-        seek(s, at, b);
-        return;
+        return seek(to, s, at, b);
     }
     if op == b'N' {
-        next(s, at, b);
-        return;
+        return next(to, s, at, b);
     }
     if op == b'A' {
-        any(s, at, b);
-        return;
+        return any(to, s, at, b);
     }
-    read(s, at);
+    read(to, s, at)
 }
 
 // Answers a command, and says how long the loaded bytes then are.
-pub fn answer(s: &[u8], at: usize, op: u8, out: &mut [u8], len: usize) -> usize {
+pub fn answer(
+    to: &mut Out,
+    s: &[u8],
+    at: usize,
+    op: u8,
+    out: &mut [u8],
+    len: usize,
+) -> io::Result<usize> {
     if op == b'B' {
-        return build(s, at, out);
+        return build(to, s, at, out);
     }
     if op == b'L' {
-        return load(s, at, out);
+        return load(to, s, at, out);
     }
     if op == b'D' {
         damage(s, at, out);
-        return len;
+        return Ok(len);
     }
     if op == b'Z' {
         patch(s, at, out);
-        return len;
+        return Ok(len);
     }
     if op == b'T' {
         let n = fields::number(s, at);
-        return n.value;
+        return Ok(n.value);
     }
-    ask(s, at, op, front(out, len));
-    len
+    ask(to, s, at, op, front(out, len))?;
+    Ok(len)
 }

@@ -1,10 +1,12 @@
 // Commands on filters and filter blocks.
 use crate::fields::front;
+use crate::show::Out;
 use crate::{fields, show};
 use bloom::filter as one;
 use bloom::filter::Filter;
 use filter_block::filter_block as groups;
 use filter_block::filter_block::Made;
+use std::io;
 
 pub fn knows(op: u8) -> bool {
     op == b'h' || op == b'b' || op == b'f' || op == b'm' || op == b'w' || op == b'q' || op == b'M'
@@ -18,17 +20,20 @@ fn choice(bits: usize) -> Filter {
     }
 }
 
-fn hash(s: &[u8], at: usize) {
+fn hash(to: &mut Out, s: &[u8], at: usize) -> io::Result<()> {
     let mut a = [0u8; 2600];
     let fa = fields::field(s, at, &mut a);
-    show::say(b" ");
-    show::word(one::bloom_hash(front(&a, fa.len)));
+    show::say(to, b" ")?;
+    show::word(to, one::bloom_hash(front(&a, fa.len)))
 }
 
-fn probes(s: &[u8], at: usize) {
+fn probes(to: &mut Out, s: &[u8], at: usize) -> io::Result<()> {
     let bits = fields::number(s, at);
-    show::say(b" ");
-    show::number64(one::probe_count((bits.value % 4294967296) as u32) as u64);
+    show::say(to, b" ")?;
+    show::number64(
+        to,
+        one::probe_count((bits.value % 4294967296) as u32) as u64,
+    )
 }
 
 #[derive(Clone, Copy)]
@@ -71,58 +76,72 @@ fn some_of(h: &[u32], n: usize) -> &[u32] {
     if n <= h.len() { &h[0..n] } else { h }
 }
 
-fn create(s: &[u8], at: usize) {
+fn create(to: &mut Out, s: &[u8], at: usize) -> io::Result<()> {
     let bits = fields::number(s, at);
     let h = hashes(s, bits.next);
     let all = h.all;
     let list = some_of(&all, h.count);
     let mut run = [0xee_u8; 2700];
     let w = one::create_filter(choice(bits.value), list, &mut run, 3);
-    show::written(&run, 3, w);
+    show::written(to, &run, 3, w)?;
     let mut short = [0xee_u8; 2700];
     let place = show::one_short(2700, 3, w);
     let v = one::create_filter(choice(bits.value), list, &mut short, place);
     if show::some(3, w) {
-        show::refused(&short, v);
+        show::refused(to, &short, v)?;
     }
+    Ok(())
 }
 
-fn may(s: &[u8], at: usize) {
+fn may(to: &mut Out, s: &[u8], at: usize) -> io::Result<()> {
     let mut a = [0u8; 2600];
     let fa = fields::field(s, at, &mut a);
     let h = one_hash(s, fa.next);
     show::yes(
+        to,
         one::key_may_match(front(&a, fa.len), h.hash),
         b" no",
         b" may",
-    );
+    )
 }
 
-fn formed(s: &[u8], at: usize) {
+fn formed(to: &mut Out, s: &[u8], at: usize) -> io::Result<()> {
     let mut a = [0u8; 2600];
     let fa = fields::field(s, at, &mut a);
-    show::yes(groups::is_formed(front(&a, fa.len)), b" not", b" formed");
+    show::yes(
+        to,
+        groups::is_formed(front(&a, fa.len)),
+        b" not",
+        b" formed",
+    )
 }
 
-fn asked(s: &[u8], at: usize) {
+fn asked(to: &mut Out, s: &[u8], at: usize) -> io::Result<()> {
     let mut a = [0u8; 2600];
     let fa = fields::field(s, at, &mut a);
     let offset = fields::number(s, fa.next);
     let h = one_hash(s, offset.next);
     show::yes(
+        to,
         groups::may_match(front(&a, fa.len), offset.value, h.hash),
         b" no",
         b" may",
-    );
+    )
 }
 
-fn finished(filters: &[u8; 128], bytes: usize, offsets: &[u32; 8], made: usize) {
+fn finished(
+    to: &mut Out,
+    filters: &[u8; 128],
+    bytes: usize,
+    offsets: &[u32; 8],
+    made: usize,
+) -> io::Result<()> {
     let mut run = [0xee_u8; 256];
     let w = groups::finish(&mut run, 3, front(filters, bytes), some_of(offsets, made));
-    show::written(&run, 3, w);
+    show::written(to, &run, 3, w)
 }
 
-fn make(s: &[u8], at: usize) {
+fn make(to: &mut Out, s: &[u8], at: usize) -> io::Result<()> {
     let bits = fields::number(s, at);
     let upto = fields::number(s, bits.next);
     let bytes_room = fields::number(s, upto.next);
@@ -143,40 +162,36 @@ fn make(s: &[u8], at: usize) {
             &mut offsets[0..numbers],
             0,
         ) {
-            Made::NoRoom => show::say(b" no room"),
+            Made::NoRoom => show::say(to, b" no room"),
             Made::Filters { bytes, made } => {
-                show::spaced(bytes);
-                show::spaced(made);
-                finished(&filters, bytes, &offsets, made);
+                show::spaced(to, bytes)?;
+                show::spaced(to, made)?;
+                finished(to, &filters, bytes, &offsets, made)
             }
         }
+    } else {
+        Ok(())
     }
 }
 
-pub fn answer(s: &[u8], at: usize, op: u8) {
+pub fn answer(to: &mut Out, s: &[u8], at: usize, op: u8) -> io::Result<()> {
     if op == b'h' {
-        hash(s, at);
-        return;
+        return hash(to, s, at);
     }
     if op == b'b' {
-        probes(s, at);
-        return;
+        return probes(to, s, at);
     }
     if op == b'f' {
-        create(s, at);
-        return;
+        return create(to, s, at);
     }
     if op == b'm' {
-        may(s, at);
-        return;
+        return may(to, s, at);
     }
     if op == b'w' {
-        formed(s, at);
-        return;
+        return formed(to, s, at);
     }
     if op == b'q' {
-        asked(s, at);
-        return;
+        return asked(to, s, at);
     }
-    make(s, at);
+    make(to, s, at)
 }
