@@ -20,6 +20,10 @@ use Rattle.block_reader.specs.Steps.{entries_from, read_from, Told}
 use Rattle.blocks.proofs.ReadLaws.{entry_ends, fuel_enough}
 use Rattle.block_reader.proofs.EntryLaws.{no_step, Taken}
 
+-- what is said of a key is said of the same key
+pub said_of : {A B : Type 0} (f : A → B) {q k : A} {r b : B} → q ≡ k → r ≡ f q → r ≡ b → f k ≡ b
+said_of f same said is = ap f (sym same) ∙ sym said ∙ is
+
 -- ---- the entries from a place on
 
 module _ (d : List ℕ) (at : ℕ) (before : List ℕ) where

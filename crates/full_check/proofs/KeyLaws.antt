@@ -1,6 +1,6 @@
 -- The keys of a block, one entry at a time: that they rise, and that a filter lets them through.
 use Prim.Native.Nat.{ℕ, ◌<◌}
-use mathlib.Core.Path.{◌≡◌, refl, sym, ap, ◌∙◌}
+use mathlib.Core.Path.{◌≡◌, refl, ap, ◌∙◌}
 use mathlib.Core.Bool.{Bool, true, false, ◌&&◌, not}
 use mathlib.Core.List.{List, [], ◌∷◌}
 use mathlib.Core.Option.{Option, some}
@@ -27,10 +27,6 @@ use Rattle.filters.specs.Filter.{hash}
 use Rattle.filters.specs.FilterBlock.{may_match}
 use Rattle.table.specs.Table.{Edge, follows, first_follows, handle_of, less_of}
 use Rattle.full_check.specs.Steps.{after, rises_from, edge_of, ordered, lets}
-
--- what is said of a key is said of the same key
-pub said_of : {A B : Type 0} (f : A → B) {q k : A} {r b : B} → q ≡ k → r ≡ f q → r ≡ b → f k ≡ b
-said_of f same said is = ap f (sym same) ∙ sym said ∙ is
 
 -- ---- one key after another
 

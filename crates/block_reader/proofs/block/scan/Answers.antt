@@ -1,7 +1,7 @@
 -- `block_reader::block::scan` meets its contract. The loop's invariant: the same is said of the entries from `at` on as of all, and the key buffer is as
 -- it was.
 use Prim.Native.Nat.{ℕ}
-use mathlib.Core.Path.{◌≡◌, refl, sym, ap, ◌∙◌}
+use mathlib.Core.Path.{◌≡◌, refl, sym, ◌∙◌}
 use mathlib.Core.List.{List}
 use mathlib.Core.Bool.{Bool}
 use mathlib.Core.Option.{some}
@@ -11,7 +11,7 @@ use Rattle.keys.proofs.AnswerLaws.{less_told}
 use Rattle.blocks.specs.Search.{seek_in}
 use Rattle.blocks.proofs.ReadLaws.{entry_start}
 use Rattle.block_reader.proofs.EntryLaws.{Taken, taken, taken_fits, taken_length}
-use Rattle.block_reader.proofs.WalkLaws.{Same, scan_start, scan_bad, scan_end, scan_more, scan_hit}
+use Rattle.block_reader.proofs.WalkLaws.{said_of, Same, scan_start, scan_bad, scan_end, scan_more, scan_hit}
 use Rattle.block_reader.proofs.FoundLaws.{told_bad, told_none, told_entry}
 use Rattle.block_reader.proofs.SeekLaws.{seek_here, seek_past, seek_end}
 use Rattle.block_reader.proofs.block.scan.Goals as goal
@@ -31,9 +31,9 @@ entry c =
     let r = c.entry_at in
     taken c.args.d.now c.loop-at.at c.loop-at.buf c.loop-at.len c.loop-at.invariant.0.within c.loop-at.invariant.0.room (sym r.ensures.said ∙ c.in-Entry.is) r.ensures.left r.auto.key
 
--- its key is compared as it stands in the buffer
-order : (p : Point) {k q : List ℕ} {b : Bool} → k ≡ q → b ≡ is_less (by_point (point_of k) p) → is_less (by_point (point_of q) p) ≡ b
-order p key told = ap (λ (q : List ℕ). is_less (by_point (point_of q) p)) (sym key) ∙ sym told
+-- how a key stands to the point: an entry's is compared as it stands in the buffer
+abbrev order : Point → List ℕ → Bool
+order p q = is_less (by_point (point_of q) p)
 
 pub loop-at-init : goal.loop-at-init
 loop-at-init c = (scan_start c.args.d.now c.args.from (Same (seek_in _)) _ refl c.requires (λ es. refl), refl)
@@ -55,7 +55,7 @@ loop-at-smaller c = omega (arith, (entry (goal.at.loop-at-smaller c).In-Entry).s
 
 pub loop-at-preserved : goal.loop-at-preserved
 loop-at-preserved c = let t = entry (goal.at.loop-at-preserved c).In-Entry in
-    (scan_more c.loop-at.invariant.0 t (Same (seek_in (point (goal.at.loop-at-preserved c).At-loop-at))) (λ es rest same. same ∙ seek_past (point (goal.at.loop-at-preserved c).At-loop-at) t.step.here rest (order (point (goal.at.loop-at-preserved c).At-loop-at) t.key (less_told _ c.is_less.ensures c.cmp_target.ensures) ∙ c.if-is_less.true)), c.loop-at.invariant.1)
+    (scan_more c.loop-at.invariant.0 t (Same (seek_in (point (goal.at.loop-at-preserved c).At-loop-at))) (λ es rest same. same ∙ seek_past (point (goal.at.loop-at-preserved c).At-loop-at) t.step.here rest (said_of (order (point (goal.at.loop-at-preserved c).At-loop-at)) t.key (less_told _ c.is_less.ensures c.cmp_target.ensures) c.if-is_less.true)), c.loop-at.invariant.1)
 
 pub slice_bounds-buf-end-else-is_less : goal.slice_bounds-buf-end-else-is_less
 slice_bounds-buf-end-else-is_less c = taken_fits (entry (goal.at.slice_bounds-buf-end-else-is_less c).In-Entry)
@@ -66,7 +66,7 @@ slice_bounds-hand-end c = sym (taken_length (entry (goal.at.slice_bounds-hand-en
 pub returns-else-is_less : goal.returns-else-is_less
 returns-else-is_less c = let t = entry (goal.at.returns-else-is_less c).In-Entry in
     told_entry _ _ _ (seek_in (point (goal.at.returns-else-is_less c).At-loop-at)) _ t.step.here (entry_start _ _ _ t.step.reads) (sym t.key) t.step.value_at t.step.value_size t.step.within (omega (arith, taken_length (entry (goal.at.returns-else-is_less c).In-Entry), t.step.room))
-    (scan_hit c.loop-at.invariant.0 t (λ es. seek_in (point (goal.at.returns-else-is_less c).At-loop-at) es ≡ some (some t.step.here)) (λ es rest same. same ∙ seek_here (point (goal.at.returns-else-is_less c).At-loop-at) t.step.here rest (order (point (goal.at.returns-else-is_less c).At-loop-at) t.key (less_told _ c.is_less.ensures c.cmp_target.ensures) ∙ c.if-is_less.false)))
+    (scan_hit c.loop-at.invariant.0 t (λ es. seek_in (point (goal.at.returns-else-is_less c).At-loop-at) es ≡ some (some t.step.here)) (λ es rest same. same ∙ seek_here (point (goal.at.returns-else-is_less c).At-loop-at) t.step.here rest (said_of (order (point (goal.at.returns-else-is_less c).At-loop-at)) t.key (less_told _ c.is_less.ensures c.cmp_target.ensures) c.if-is_less.false)))
     (rw c.loop-at.invariant.1 at c.hand.ensures)
 
 pub returns : goal.returns

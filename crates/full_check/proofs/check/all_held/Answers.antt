@@ -9,12 +9,11 @@ use Rattle.blocks.specs.Block.{Entry, pairs_of}
 use Rattle.blocks.specs.Formed.{all}
 use Rattle.block_reader.proofs.EntryLaws.{Taken, taken_fits, taken_length}
 use Rattle.block_reader.proofs.RestLaws.{rest_bad, rest_taken}
-use Rattle.block_reader.proofs.WalkLaws.{Same, scan_start, scan_bad, scan_end, scan_more, scan_hit}
+use Rattle.block_reader.proofs.WalkLaws.{said_of, Same, scan_start, scan_bad, scan_end, scan_more, scan_hit}
 use Rattle.filters.specs.Filter.{hash}
 use Rattle.filters.specs.FilterBlock.{may_match}
 use Rattle.full_check.specs.Steps.{lets}
 use Rattle.full_check.proofs.KeyLaws.{held_end, held_next}
-use Rattle.full_check.proofs.KeyLaws.{said_of}
 use Rattle.full_check.proofs.check.all_held.Goals as goal
 use Rattle.full_check.proofs.check.all_held.Goals.{At-loop-at, In-Entry}
 

@@ -13,11 +13,11 @@ use Rattle.blocks.specs.Block.{pairs_of}
 use Rattle.block_reader.specs.Said.{kind_of}
 use Rattle.block_reader.proofs.EntryLaws.{Taken, taken_fits, taken_length}
 use Rattle.block_reader.proofs.RestLaws.{rest_bad, rest_taken}
-use Rattle.block_reader.proofs.WalkLaws.{scan_start, scan_bad, scan_end, scan_more, scan_hit}
+use Rattle.block_reader.proofs.WalkLaws.{said_of, scan_start, scan_bad, scan_end, scan_more, scan_hit}
 use Rattle.table.specs.Table.{less_of}
 use Rattle.full_check.specs.Steps.{after}
 use Rattle.codec.proofs.PutLaws.{put_start}
-use Rattle.full_check.proofs.KeyLaws.{said_of, RisesLeft, rises_start, rises_end, rises_more, rises_stop}
+use Rattle.full_check.proofs.KeyLaws.{RisesLeft, rises_start, rises_end, rises_more, rises_stop}
 use Rattle.full_check.proofs.check.keys_rise.Goals as goal
 use Rattle.full_check.proofs.check.keys_rise.Goals.{At-loop-at, In-Entry}
 

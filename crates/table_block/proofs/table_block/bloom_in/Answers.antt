@@ -1,9 +1,9 @@
 -- `table_block::table_block::bloom_in` meets its contract. The loop's invariant: the entries from `at` on name the same handle as all.
-use Prim.Native.Nat.{ℕ, ◌+◌}
+use Prim.Native.Nat.{ℕ, ◌+◌, ◌≤◌}
 use mathlib.Core.Path.{◌≡◌, refl, sym, ap, ◌∙◌}
 use mathlib.Core.List.{List}
 use native.Mathlib.Omega.{arith}
-use lib.ListN.{take}
+use lib.ListN.{length, take}
 use Rattle.codec.specs.Answers.{one_handle_answer}
 use Rattle.codec.specs.Bytes.{same_bytes}
 use Rattle.codec.specs.Varint.{one_handle}
@@ -13,7 +13,7 @@ use Rattle.block_reader.proofs.RestLaws.{rest_bad, rest_taken, value_lent}
 use Rattle.block_reader.proofs.WalkLaws.{Same, scan_start, scan_bad, scan_end, scan_more, scan_hit}
 use Rattle.table_block.proofs.BloomLaws.{named, bloom_end, bloom_here, bloom_past}
 use Rattle.table_block.proofs.table_block.bloom_in.Goals as goal
-use Rattle.table_block.proofs.table_block.bloom_in.Goals.{At-loop-at, In-Entry}
+use Rattle.table_block.proofs.table_block.bloom_in.Goals.{At-loop-at, In-Entry, In-Entry-unread}
 
 abbrev D : (c : At-loop-at) → List ℕ
 D c = c.args.d.now
@@ -39,11 +39,18 @@ loop-at-init c = scan_start _ 0 (Same named) _ refl (omega arith) (λ es. refl)
 pub returns-in-Bad : goal.returns-in-Bad
 returns-in-Bad c = λ es read. absurd (scan_bad c.loop-at.invariant c.loop-at-test.true refl (rest_bad (D (goal.at.returns-in-Bad c).At-loop-at) c.loop-at.at c.loop-at.buf c.loop-at.len (sym c.read_entry.ensures.said ∙ c.in-Bad.is)) es read)
 
+-- the same, where the sums are asked: the entry ends within the block
+ends : (c : In-Entry-unread) → c.loop-at.at + c.in-Entry.value_at + c.in-Entry.value_len ≤ length (D (goal.at.overflow_add-from c).At-loop-at)
+ends c =
+    let l = c.loop-at in
+    let r = c.read_entry in
+    (rest_taken (D (goal.at.overflow_add-from c).At-loop-at) l.at l.buf l.len l.invariant.within l.invariant.room (sym r.ensures.said ∙ c.in-Entry.is) r.ensures.left r.auto.key).step.within
+
 pub overflow_add-from : goal.overflow_add-from
-overflow_add-from c = omega (arith, (rest_taken (D (goal.at.overflow_add-from c).At-loop-at) c.loop-at.at c.loop-at.buf c.loop-at.len c.loop-at.invariant.within c.loop-at.invariant.room (sym c.read_entry.ensures.said ∙ c.in-Entry.is) c.read_entry.ensures.left c.read_entry.auto.key).step.within)
+overflow_add-from c = omega (arith, ends c)
 
 pub overflow_add-next : goal.overflow_add-next
-overflow_add-next c = omega (arith, (rest_taken (D (goal.at.overflow_add-next c).At-loop-at) c.loop-at.at c.loop-at.buf c.loop-at.len c.loop-at.invariant.within c.loop-at.invariant.room (sym c.read_entry.ensures.said ∙ c.in-Entry.is) c.read_entry.ensures.left c.read_entry.auto.key).step.within)
+overflow_add-next c = omega (arith, ends c)
 
 pub slice_bounds-buf-end : goal.slice_bounds-buf-end
 slice_bounds-buf-end c = taken_fits (entry c)
