@@ -8,16 +8,16 @@ use native.Mathlib.Nat.{zero-add}
 use lib.Dec.{leb, eqb}
 use lib.ListN.{length, take, length-replicate}
 use borrow.Author.Tests.{leb-true}
+use Rattle.std.specs.Prelude.{Result, Ok}
 use Rattle.codec.specs.Bytes.{part}
 use Rattle.codec.specs.Put.{room, put, Wrote}
-use Rattle.codec.specs.declared.put.Written.{Written}
-use Rattle.codec.proofs.Prelude.{test, both}
+use Rattle.codec.specs.declared.put.NoRoom.{NoRoom}
+use Rattle.codec.proofs.Prelude.{test, both, apart}
 use Rattle.codec.proofs.PutLaws.{put_length, put_front, put_behind, Kept, kept_same, kept_put, wrote_behind}
 use Rattle.block_builder.specs.declared.block_builder.BlockBuilder.{BlockBuilder}
-use Rattle.block_builder.specs.declared.block_builder.Added.{Added}
 use Rattle.blocks.specs.Block.{Pair, last_key_of, since_all, packed, restarts_of, tail_bytes, block_bytes}
 use Rattle.blocks.specs.Count.{BlockCount, count_of, no_entries, count_entry, count_size}
-use Rattle.block_builder.specs.Builder.{count_in, new_builder, builder_with, builder_after, countable_after, countable, is_restart, next_bytes, next_restart, addable, AddedIs, Counting, Stands}
+use Rattle.block_builder.specs.Builder.{count_in, new_builder, builder_with, builder_after, countable_after, countable, fit_answer, is_restart, next_bytes, next_restart, addable, AddedIs, Counting, Stands}
 use Rattle.blocks.proofs.BuildLaws.{packed_append, packed_one, restarts_append, restarts_one}
 use Rattle.blocks.proofs.CountLaws.{count_none, count_entry_lem, count_size_lem}
 use Rattle.block_builder.proofs.BuilderCode.{next_bytes_lem, next_restarts}
@@ -65,27 +65,35 @@ module _ (b : BlockBuilder) (at : ℕ) (out restarts key value : List ℕ) where
       let z = both (leb (b.restarts + length (next_restart b)) (length restarts)) _ y.1 in
       (leb-true (length key) 1032 k.0, leb-true _ (length out) y.0, leb-true _ (length restarts) z.0)
 
-module _ {b : BlockBuilder} {at : ℕ} {out out' restarts restarts' key value : List ℕ} {r : Added} (h : AddedIs b at out out' restarts restarts' key value r) where
+-- equal answers are of equal tests
+fit_same : (t u : Bool) → fit_answer t ≡ fit_answer u → t ≡ u
+fit_same true true e = refl
+fit_same true false e = apart cc
+fit_same false true e = apart cc
+fit_same false false e = refl
+
+module _ {b : BlockBuilder} {at : ℕ} {out out' restarts restarts' key value : List ℕ} {r : Result (Unit {0}) NoRoom} {b' : BlockBuilder}
+    (h : AddedIs b at out out' restarts restarts' key value r b') where
   -- an entry that fits is written, and one that does not leaves all as it was
-  pub added_is : (fits : Bool) → r.fits ≡ fits
-      → (r.block ≡ cond fits (builder_after b key (length value)) b) × (out' ≡ cond fits (put out (at + b.bytes) (next_bytes b key value)) out)
+  pub added_is : (fits : Bool) → r ≡ fit_answer fits
+      → (b' ≡ cond fits (builder_after b key (length value)) b) × (out' ≡ cond fits (put out (at + b.bytes) (next_bytes b key value)) out)
       × (restarts' ≡ cond fits (put restarts b.restarts (next_restart b)) restarts)
   added_is fits f =
-      let n : addable b at out restarts key value ≡ fits = sym h.fits ∙ f in
+      let n : addable b at out restarts key value ≡ fits = fit_same _ fits (sym h.fits ∙ f) in
       (h.block ∙ rw n, h.written ∙ rw n, h.marked ∙ rw n)
 
   -- before the entry and behind it nothing changes
-  pub added_kept : Kept (at + b.bytes) (at + r.block.bytes) out out' × Kept b.restarts r.block.restarts restarts restarts'
+  pub added_kept : Kept (at + b.bytes) (at + b'.bytes) out out' × Kept b.restarts b'.restarts restarts restarts'
   unfolding builder_after builder_with
   added_kept =
-      test r.fits
+      test (addable b at out restarts key value)
       (λ f.
-      let d = added_is true f in
-      let z : r.block.bytes ≡ (count_entry b.interval (count_in b) key (length value)).bytes = ap (λ (c : BlockBuilder). c.bytes) d.0 in
-      let x : at + b.bytes + length (next_bytes b key value) ≡ at + r.block.bytes = omega (arith, next_bytes_lem b key value) in
-      let y : b.restarts + length (next_restart b) ≡ r.block.restarts = next_restarts b key value ∙ sym (ap (λ (c : BlockBuilder). c.restarts) d.0) in
+      let d = added_is true (h.fits ∙ ap fit_answer f) in
+      let z : b'.bytes ≡ (count_entry b.interval (count_in b) key (length value)).bytes = ap (λ (c : BlockBuilder). c.bytes) d.0 in
+      let x : at + b.bytes + length (next_bytes b key value) ≡ at + b'.bytes = omega (arith, next_bytes_lem b key value) in
+      let y : b.restarts + length (next_restart b) ≡ b'.restarts = next_restarts b key value ∙ sym (ap (λ (c : BlockBuilder). c.restarts) d.0) in
       (rw (← x, d.1) (kept_put out (at + b.bytes) (next_bytes b key value)), rw (← y, d.2) (kept_put restarts b.restarts (next_restart b))))
-      (λ f. let d = added_is false f in rw (d.1, d.2) (kept_same _ _ out, kept_same _ _ restarts))
+      (λ f. let d = added_is false (h.fits ∙ ap fit_answer f) in rw (d.1, d.2) (kept_same _ _ out, kept_same _ _ restarts))
 
 -- ---- the block
 
@@ -111,12 +119,12 @@ module _ {i : ℕ} {ps : List Pair} {b : BlockBuilder} {at : ℕ} {out restarts 
       (test (eqb (since_all i i ps) i) (λ t. rw t) (λ t. rw t))
 
   -- a pair that was added
-  pub stands_more : {out' restarts' : List ℕ} {r : Added} → AddedIs b at out out' restarts restarts' p.key p.value r → r.fits ≡ true
-      → Stands i (ps ++ (p ∷ [])) r.block at out' restarts'
+  pub stands_more : {out' restarts' : List ℕ} {r : Result (Unit {0}) NoRoom} {b' : BlockBuilder} → AddedIs b at out out' restarts restarts' p.key p.value r b' → r ≡ Ok tt
+      → Stands i (ps ++ (p ∷ [])) b' at out' restarts'
   unfolding builder_after builder_with
-  stands_more {out'} {restarts'} {r} h f =
+  stands_more h f =
       let d = added_is h true f in
-      let t = addable_is b at out restarts p.key p.value (sym h.fits ∙ f) in
+      let t = addable_is b at out restarts p.key p.value (fit_same _ true (sym h.fits ∙ f)) in
       let nb = next_bytes b p.key p.value in
       let nr = next_restart b in
       rw (d.0, d.1, d.2)
@@ -136,7 +144,7 @@ module _ {i : ℕ} {ps : List Pair} {b : BlockBuilder} {at : ℕ} {out restarts 
   stands_size = count_size_lem i ps ∙ ap count_size (sym s.counting.counts)
 
   -- behind the entries, the tail makes the block
-  pub stands_finish : {w : Written} {out' : List ℕ} → Wrote out (at + b.bytes) (tail_bytes (take b.restarts restarts)) w out'
+  pub stands_finish : {w : Result ℕ NoRoom} {out' : List ℕ} → Wrote out (at + b.bytes) (tail_bytes (take b.restarts restarts)) w out'
       → Wrote out at (block_bytes i ps) w out'
   unfolding count_in count_of block_bytes
   stands_finish h =

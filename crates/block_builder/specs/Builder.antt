@@ -1,16 +1,20 @@
 -- What the block builder's functions answer and leave in the lent runs, for every builder at all.
-use Rattle.std.specs.Prelude.{ℕ, ◌+◌, ◌^◌, ◌≡◌, List, [], ◌∷◌, Bool, ◌&&◌, cond, eqb, leb, ltb, length, take, replicate}
+use Rattle.std.specs.Prelude.{ℕ, ◌+◌, ◌^◌, ◌≡◌, List, [], ◌∷◌, Bool, ◌&&◌, cond, eqb, leb, ltb, length, take, replicate, Result, Ok, Err}
 use Rattle.codec.specs.Bytes.{part}
 use Rattle.codec.specs.Put.{room, put}
+use Rattle.codec.specs.declared.put.NoRoom.{NoRoom}
 use Rattle.block_builder.specs.declared.block_builder.BlockBuilder.{BlockBuilder}
-use Rattle.block_builder.specs.declared.block_builder.Counted.{Counted}
-use Rattle.block_builder.specs.declared.block_builder.Added.{Added}
+use Rattle.block_builder.specs.declared.block_builder.Counts.{Counts}
 use Rattle.blocks.specs.Block.{Pair, sharing, entry_bytes, packed, restarts_of}
 use Rattle.blocks.specs.Count.{BlockCount, count_of, count_entry}
 
 -- the counts that a builder holds
 unfoldable pub count_in : BlockBuilder → BlockCount
 count_in b = record { bytes = b.bytes; restarts = b.restarts; since = b.since; last = take b.len b.last }
+
+-- and those that were taken of one
+abbrev pub count_taken : Counts → BlockCount
+count_taken c = record { bytes = c.bytes; restarts = c.restarts; since = c.since; last = c.last.now }
 
 -- the builder of no entries
 unfoldable pub new_builder : ℕ → BlockBuilder
@@ -37,10 +41,14 @@ countable_after i b key value = leb (length key) 1032 && counts_fit (count_entry
 abbrev pub countable : BlockBuilder → List ℕ → ℕ → Bool
 countable b key value = countable_after b.interval (count_in b) key value
 
--- counting an entry answers r
-pub record CountedIs (b : BlockBuilder) (key : List ℕ) (value : ℕ) (r : Counted) : Type 0 where
-  pub fits : r.fits ≡ countable b key value
-  pub block : r.block ≡ cond (countable b key value) (builder_after b key value) b
+-- the answer: that an entry fits, or that there is no room
+abbrev pub fit_answer : Bool → Result (Unit {0}) NoRoom
+fit_answer fits = cond fits (Ok tt) (Err (record {}))
+
+-- counting an entry answers r and leaves the builder b'
+pub record CountedIs (b : BlockBuilder) (key : List ℕ) (value : ℕ) (r : Result (Unit {0}) NoRoom) (b' : BlockBuilder) : Type 0 where
+  pub fits : r ≡ fit_answer (countable b key value)
+  pub block : b' ≡ cond (countable b key value) (builder_after b key value) b
 
 -- the next entry is a restart
 unfoldable pub is_restart : BlockBuilder → Bool
@@ -60,10 +68,10 @@ addable b at out restarts key value =
     countable b key (length value)
     && (room out (at + b.bytes) (next_bytes b key value) && (room restarts b.restarts (next_restart b) && ltb b.bytes (2 ^ 32)))
 
--- adding an entry to the block at a place of out answers r and leaves both runs so
-pub record AddedIs (b : BlockBuilder) (at : ℕ) (out out' restarts restarts' key value : List ℕ) (r : Added) : Type 0 where
-  pub fits : r.fits ≡ addable b at out restarts key value
-  pub block : r.block ≡ cond (addable b at out restarts key value) (builder_after b key (length value)) b
+-- adding an entry to the block at a place of out answers r and leaves both runs and the builder so
+pub record AddedIs (b : BlockBuilder) (at : ℕ) (out out' restarts restarts' key value : List ℕ) (r : Result (Unit {0}) NoRoom) (b' : BlockBuilder) : Type 0 where
+  pub fits : r ≡ fit_answer (addable b at out restarts key value)
+  pub block : b' ≡ cond (addable b at out restarts key value) (builder_after b key (length value)) b
   pub written : out' ≡ cond (addable b at out restarts key value) (put out (at + b.bytes) (next_bytes b key value)) out
   pub marked : restarts' ≡ cond (addable b at out restarts key value) (put restarts b.restarts (next_restart b)) restarts
 

@@ -1,16 +1,18 @@
 -- What the block builder decides before it writes: how an entry is written and what the counts are after it.
-use Rattle.std.specs.Prelude.{ℕ, ◌+◌, ◌-◌, ◌^◌, min, List, Bool, ◌&&◌, cond, leb, ltb}
+use Rattle.std.specs.Prelude.{ℕ, ◌+◌, ◌-◌, ◌^◌, min, List, Bool, ◌&&◌, cond, leb, ltb, Result, Ok, Err}
+use Rattle.codec.specs.declared.put.NoRoom.{NoRoom}
 use Rattle.block_builder.specs.declared.block_builder.Plan.{Plan}
-use Rattle.block_builder.specs.declared.block_builder.Plan.TheVariants.{Entry, Full}
 use Rattle.blocks.specs.Block.{sharing}
 use Rattle.blocks.specs.Count.{BlockCount, count_entry, count_size}
 use Rattle.block_builder.specs.Builder.{countable_after}
 
 -- the entry of a key and a value of so many bytes, at interval i after some counts: what it shares and the counts with it, where it can be counted
-unfoldable pub plan_of : ℕ → BlockCount → List ℕ → ℕ → Plan
+unfoldable pub plan_of : ℕ → BlockCount → List ℕ → ℕ → Result Plan NoRoom
 plan_of i b key value =
     let c = count_entry i b key value in
-    cond (countable_after i b key value) (Entry (sharing i b.since b.last key) c.bytes c.restarts c.since) Full
+    cond (countable_after i b key value)
+    (Ok (record { shared = sharing i b.since b.last key; bytes = c.bytes; restarts = c.restarts; since = c.since }))
+    (Err (record {}))
 
 -- the size of the block with that entry, held at the largest number; and that where it cannot be counted
 unfoldable pub size_with : ℕ → BlockCount → List ℕ → ℕ → ℕ

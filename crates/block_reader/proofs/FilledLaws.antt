@@ -1,32 +1,29 @@
 -- The check of a block, entry by entry: what one entry leaves of it, and what the whole comes to.
 use Prim.Native.Nat.{ℕ, suc, ◌+◌, ◌-◌, ◌≤◌, ◌<◌}
-use mathlib.Core.Path.{◌≡◌, refl, sym, ap, ◌∙◌}
+use mathlib.Core.Path.{◌≡◌, refl, sym, ap, ap₂, ◌∙◌}
 use mathlib.Core.List.{List, [], ◌∷◌}
-use mathlib.Core.Bool.{Bool, true, false, ◌&&◌, and-true, and-false, and_comm, false≢true}
+use mathlib.Core.Bool.{Bool, true, false, ◌&&◌, ◌||◌, not, and-true, and-false, and_comm, false≢true}
 use mathlib.Core.Option.{Option, none, some}
 use native.Mathlib.Omega.{arith}
 use lib.Dec.{eqb, leb}
 use lib.ListN.{length, take, drop, length-drop}
 use lib.Seq.{drop-drop}
 use borrow.Author.Tests.{eq-eqb, ne_eqb, eqb-true, eqb-false, lt-leb}
-use Rattle.codec.specs.declared.blockhandle.OneHandle.TheVariants as OneCase
-use Rattle.codec.specs.Answers.{one_handle_answer}
+use Rattle.std.specs.Prelude.{None, is_some}
+use Rattle.codec.specs.Answers.{given}
 use Rattle.codec.specs.Bytes.{numbers, same_bytes}
 use Rattle.codec.specs.Maybe.{◌>>=◌, ask}
-use Rattle.codec.specs.Varint.{one_handle}
-use Rattle.codec.proofs.VarintCode.{one_said}
+use Rattle.codec.specs.Varint.{Handle, one_handle}
 use Rattle.codec.proofs.Prelude.{test, split}
-use Rattle.block_reader.specs.declared.block.EntryRead.TheVariants as EntryCase
+use Rattle.block_reader.specs.declared.block.EntryRead.{EntryRead}
 use Rattle.block_reader.specs.declared.block.Kind as KindEnum
 use Rattle.block_reader.specs.declared.block.Kind.TheVariants as KindCase
-use Rattle.block_reader.specs.declared.block.RowsRead.TheVariants as RowsCase
 use Rattle.blocks.specs.Block.{Pair, Entry, entry, next, entries_f, pairs_of, restarts_stand, first_is_zero, Block, block}
 use Rattle.codec.specs.Limits.{within}
 use Rattle.blocks.specs.Formed.{Kind, bloom_name, data_block, index_block, meta_block, is_handle, entry_fits, all, enough, well_formed, is_formed}
-use Rattle.block_reader.specs.Steps.{rows_of, rows_answer, Laid, restart_at, entries_from, marks, filled_from, Onward}
-use Rattle.block_reader.specs.Said.{kind_of, entry_answer}
+use Rattle.block_reader.specs.Steps.{Taken, Untaken, rows_of, Laid, restart_at, entries_from, marks, filled_from, Onward}
+use Rattle.block_reader.specs.Said.{kind_of}
 use Rattle.blocks.proofs.ReadLaws.{entry_start}
-use Rattle.block_reader.proofs.EntryLaws.{no_step, Taken}
 use Rattle.blocks.proofs.FormedLaws.{as_pair}
 use Rattle.block_reader.proofs.RestLaws.{value_lent}
 use Rattle.block_reader.proofs.LayoutLaws.{restarts_from, numbers_length, no_block, block_is, entries_size}
@@ -34,18 +31,21 @@ use Rattle.block_reader.proofs.WalkLaws.{from_end, from_none, from_some}
 
 -- ---- a value that is a handle
 
-pub not_handle : (s : List ℕ) → one_handle_answer (one_handle s) ≡ OneCase.None → false ≡ is_handle s
-unfolding is_handle
-not_handle s e = rw (one_said (one_handle s) e, is_handle)
-
-pub one_handle_is : (s : List ℕ) {a b : ℕ} → one_handle_answer (one_handle s) ≡ OneCase.Handle a b → true ≡ is_handle s
-unfolding is_handle
-one_handle_is s e = rw (one_said (one_handle s) e, is_handle)
+pub one_handle_is : (s : List ℕ) → is_some (given (one_handle s)) ≡ is_handle s
+unfolding is_handle given
+one_handle_is s = go (one_handle s)
+  where
+    go : (o : Option Handle) → is_some (given o) ≡ elim o as (λ (_ : Option Handle). Bool) [ none ↦ false | some h ↦ true ]
+    go none = refl
+    go (some h) = refl
 
 -- ---- the limits of a kind
 
 pub and_with : {a t : Bool} (b : Bool) → a ≡ t → a && b ≡ t && b
 and_with b e = rw e
+
+pub or_with : {a t : Bool} (b : Bool) → a ≡ t → a || b ≡ t || b
+or_with b e = rw e
 
 module _ {kind : KindEnum.Kind} (p : Pair) where
   pub limits_data : kind ≡ KindCase.Data → entry_fits (kind_of kind) p ≡ within 9 1032 (length p.key) && leb (length p.value) 32768
@@ -56,18 +56,9 @@ module _ {kind : KindEnum.Kind} (p : Pair) where
   unfolding kind_of entry_fits
   limits_index e = rw e
 
-  -- of the name of the filter, and of another
-  pub limits_bloom : kind ≡ KindCase.Metaindex → same_bytes p.key bloom_name ≡ true → entry_fits (kind_of kind) p ≡ within 1 1032 (length p.key) && is_handle p.value
+  pub limits_meta : kind ≡ KindCase.Metaindex → entry_fits (kind_of kind) p ≡ within 1 1032 (length p.key) && (not (same_bytes p.key bloom_name) || is_handle p.value)
   unfolding kind_of entry_fits
-  limits_bloom e n = rw (e, n)
-
-  pub limits_meta : kind ≡ KindCase.Metaindex → same_bytes p.key bloom_name ≡ false → entry_fits (kind_of kind) p ≡ within 1 1032 (length p.key) && true
-  unfolding kind_of entry_fits
-  limits_meta e n = rw (e, n)
-
-  pub limits_short : kind ≡ KindCase.Metaindex → within 1 1032 (length p.key) ≡ false → entry_fits (kind_of kind) p ≡ false
-  unfolding kind_of entry_fits
-  limits_short e n = rw (e, n)
+  limits_meta e = rw e
 
 -- a block without entries
 module _ {kind : KindEnum.Kind} (b : Bool) where
@@ -182,52 +173,48 @@ marked_at at [] m = absurd (false≢true m)
 marked_at at (q ∷ qs) m = (omega arith, ap (λ (r : ℕ). r ∷ qs) (eqb-true q at m))
 
 -- none was read
-pub pass_none : (kind : Kind) (d : List ℕ) (at : ℕ) (before qs : List ℕ) {m : ℕ} → at < length d → m ≡ 1032 → entry_answer m (entry at before (drop at d)) ≡ EntryCase.Bad
-    → filled_from kind d at before qs ≡ false
-pass_none kind d at before qs {m} inside room b = go (entry at before (drop at d)) refl
+pub pass_none : (kind : Kind) (d : List ℕ) (at : ℕ) (before qs : List ℕ) → at < length d → Untaken d at before → filled_from kind d at before qs ≡ false
+pass_none kind d at before qs inside b = go (entry at before (drop at d)) refl
   where
     go : (o : Option Entry) → entry at before (drop at d) ≡ o → filled_from kind d at before qs ≡ false
     go none r = filled_none kind d at before inside qs r
     go (some e) r =
         split 1032 (length e.key)
         (λ h. filled_wrong kind d at before inside r qs (long_wrong kind (as_pair e) h))
-        (λ h. absurd (no_step b r (omega arith)))
+        (λ h. absurd (b e r (omega arith)))
 
-module _ (kind : Kind) {d : List ℕ} {at : ℕ} {k : List ℕ} {m : ℕ} {k' : List ℕ} {sh n a v : ℕ} (t : Taken d at k m k' sh n a v) where
+module _ (kind : Kind) {d : List ℕ} {at : ℕ} {before : List ℕ} {x : EntryRead} {key : List ℕ} (t : Taken d at before x key) where
   abbrev e : Entry
-  e = t.step.here
+  e = t.here
 
   inside : at < length d
-  inside = omega (arith, t.step)
+  inside = omega (arith, t.up, t.within)
 
-  -- the pair as the code lends it
-  abbrev lent : Pair
-  lent = record { key = take n k'; value = take (a + v - a) (drop a d) }
+  -- the limits, by the entry as the code lends it
+  pub pass_judged : {r : Bool} {lent s : List ℕ} → lent ≡ key → s ≡ d → r ≡ entry_fits kind (record { key = lent; value = take (x.value_at + x.value_len - x.value_at) (drop x.value_at s) }) → r ≡ entry_fits kind (as_pair e)
+  pass_judged p q said = said ∙ rw (p ∙ t.key, q, value_lent t)
 
-  fits_is : entry_fits kind lent ≡ entry_fits kind (as_pair e)
-  fits_is = rw (t.key, value_lent t)
+  pub pass_wrong : (qs : List ℕ) → entry_fits kind (as_pair e) ≡ false → filled_from kind d at before qs ≡ false
+  pass_wrong qs f = filled_wrong kind d at before inside t.reads qs f
 
-  pub pass_wrong : (qs : List ℕ) → entry_fits kind lent ≡ false → filled_from kind d at (take m k) qs ≡ false
-  pass_wrong qs f = filled_wrong kind d at (take m k) inside t.step.reads qs (sym fits_is ∙ f)
+  module _ (f : entry_fits kind (as_pair e) ≡ true) where
+    on : (rs : List ℕ) (j i : ℕ) → i ≤ length rs → filled_from kind d at before (drop j rs) ≡ filled_from kind d (next e) e.key (drop i rs) → Onward kind d rs at before j (x.value_at + x.value_len) key i
+    on rs j i h p = record { same = p ∙ ap₂ (λ (n : ℕ) (k : List ℕ). filled_from kind d n k (drop i rs)) t.ends (sym t.key); up = t.up; within = t.within; marks = h }
 
-  module _ (f : entry_fits kind lent ≡ true) where
-    on : (rs : List ℕ) (j i : ℕ) → i ≤ length rs → filled_from kind d at (take m k) (drop j rs) ≡ filled_from kind d (next e) e.key (drop i rs) → Onward kind d rs at (take m k) j (a + v) (take n k') i
-    on rs j i h p = record { same = p ∙ rw (t.step.ends, t.key); up = t.step.up; within = t.step.within; marks = h }
+    pub pass_past : (rs : List ℕ) (j : ℕ) → marks at (drop j rs) ≡ false → j ≤ length rs → Onward kind d rs at before j (x.value_at + x.value_len) key j
+    pass_past rs j h w = on rs j j w (filled_past kind d at before inside t.reads f (drop j rs) h)
 
-    pub pass_past : (rs : List ℕ) (j : ℕ) → marks at (drop j rs) ≡ false → j ≤ length rs → Onward kind d rs at (take m k) j (a + v) (take n k') j
-    pass_past rs j h w = on rs j j w (filled_past kind d at (take m k) inside t.step.reads (sym fits_is ∙ f) (drop j rs) h)
-
-    pub pass_mark : (rs : List ℕ) (j : ℕ) → marks at (drop j rs) ≡ true → sh ≡ 0 → Onward kind d rs at (take m k) j (a + v) (take n k') (j + 1)
+    pub pass_mark : (rs : List ℕ) (j : ℕ) → marks at (drop j rs) ≡ true → x.shared ≡ 0 → Onward kind d rs at before j (x.value_at + x.value_len) key (j + 1)
     pass_mark rs j h z =
         let q = marked_at at (drop j rs) h in
         on rs j (j + 1) (omega (arith, q.0, length-drop j rs))
-        (ap (filled_from kind d at (take m k)) (q.1 ∙ ap (◌∷◌ at) (drop-drop 1 j rs))
-        ∙ filled_mark kind d at (take m k) inside t.step.reads (sym fits_is ∙ f) at (drop (j + 1) rs) refl (t.step.shared ∙ z))
+        (ap (filled_from kind d at before) (q.1 ∙ ap (◌∷◌ at) (drop-drop 1 j rs))
+        ∙ filled_mark kind d at before inside t.reads f at (drop (j + 1) rs) refl (t.shared ∙ z))
 
-    pub pass_shares : (qs : List ℕ) → marks at qs ≡ true → (sh ≡ 0 → ⊥) → filled_from kind d at (take m k) qs ≡ false
+    pub pass_shares : (qs : List ℕ) → marks at qs ≡ true → (x.shared ≡ 0 → ⊥) → filled_from kind d at before qs ≡ false
     pass_shares qs h z =
-        ap (filled_from kind d at (take m k)) (marked_at at qs h).1
-        ∙ filled_shares kind d at (take m k) inside t.step.reads (sym fits_is ∙ f) at (drop 1 qs) refl (λ p. z (sym t.step.shared ∙ p))
+        ap (filled_from kind d at before) (marked_at at qs h).1
+        ∙ filled_shares kind d at before inside t.reads f at (drop 1 qs) refl (λ p. z (sym t.shared ∙ p))
 
 -- two equations of numbers, each of which follows from the other
 same_eqb : (a b c d : ℕ) → (a ≡ b → c ≡ d) → (c ≡ d → a ≡ b) → eqb a b ≡ eqb c d
@@ -272,7 +259,7 @@ formed_verdict : (kind : Kind) (s : List ℕ) → is_formed kind s ≡ verdict k
 unfolding is_formed well_formed
 formed_verdict kind s = refl
 
-pub no_layout : (kind : Kind) (s : List ℕ) → rows_answer (rows_of s) ≡ RowsCase.Bad → false ≡ is_formed kind s
+pub no_layout : (kind : Kind) (s : List ℕ) → given (rows_of s) ≡ None → false ≡ is_formed kind s
 unfolding ◌>>=◌
 no_layout kind s e = sym (formed_verdict kind s ∙ ap (verdict kind) (no_block s e))
 

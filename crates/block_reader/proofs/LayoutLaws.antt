@@ -9,49 +9,54 @@ use lib.Dec.{eqb, leb, leb→le}
 use lib.ListN.{length, take, drop, drop_of_length-le}
 use lib.Seq.{length-take-le}
 use borrow.Author.Tests.{leb-false, le-leb, lt-leb}
-use Rattle.codec.specs.declared.fixed.NumberRead.TheVariants as NumberCase
-use Rattle.codec.specs.Answers.{number_answer}
+use Rattle.std.specs.Prelude.{None, Some}
+use Rattle.codec.specs.Answers.{given}
 use Rattle.codec.specs.Bytes.{part, number_of, number_at, numbers}
 use Rattle.codec.specs.Maybe.{◌>>=◌, ask}
 use Rattle.codec.proofs.BytesLaws.{part_drop, part_end}
-use Rattle.codec.proofs.FixedLaws.{number_read, number_said}
+use Rattle.codec.proofs.FixedLaws.{number_in_lem, number_read}
+use Rattle.codec.proofs.GivenLaws.{said}
 use Rattle.codec.proofs.MaybeLaws.{giving, gets}
-use Rattle.codec.proofs.Prelude.{came_of}
-use Rattle.block_reader.specs.declared.block.RowsRead.{RowsRead}
-use Rattle.block_reader.specs.declared.block.RowsRead.TheVariants as RowsCase
 use Rattle.blocks.specs.Block.{Entry, entries_f, first_is_zero, Block, block}
-use Rattle.block_reader.specs.Steps.{Rows, rows_of, rows_answer, Laid, restart_at, marks}
+use Rattle.block_reader.specs.Steps.{Rows, rows_of, Laid, restart_at, marks}
 
 -- ---- the last four bytes
 
 module _ (s : List ℕ) where
-  pub rows_short : length s < 4 → RowsCase.Bad ≡ rows_answer (rows_of s)
-  unfolding rows_of rows_answer ◌>>=◌ ask
+  pub rows_short : length s < 4 → None ≡ given (rows_of s)
+  unfolding rows_of given ◌>>=◌ ask
   rows_short h = rw (lt-leb 4 (length s) h)
 
-  module _ (long : 4 ≤ length s) {n : ℕ} (e : number_answer (number_at 4 s (length s - 4)) ≡ NumberCase.Value n) where
+  module _ (last : ℕ) {n : ℕ} (long : last + 4 ≡ length s) (e : given (number_at 4 s last) ≡ Some n) where
     last_is : n ≡ number_of (drop (length s - 4) s)
-    last_is = number_read 4 s (length s - 4) (omega arith) (number_said _ e) ∙ ap number_of (part_end s (length s - 4) 4 (omega arith))
+    last_is =
+        let at : length s - 4 ≡ last = omega arith in
+        rw at (number_read 4 s last (omega arith) (said _ e) ∙ ap number_of (part_end s last 4 (omega arith)))
 
-    pub rows_none : n < 1 → RowsCase.Bad ≡ rows_answer (rows_of s)
-    unfolding rows_of rows_answer ◌>>=◌ ask
-    rows_none h = rw (le-leb 4 (length s) long, ← last_is, lt-leb 1 n h)
+    pub rows_none : n < 1 → None ≡ given (rows_of s)
+    unfolding rows_of given ◌>>=◌ ask
+    rows_none h = rw (le-leb 4 (length s) (omega arith), ← last_is, lt-leb 1 n h)
 
-    pub rows_over : 1 ≤ n → length s - 4 < 4 * n → RowsCase.Bad ≡ rows_answer (rows_of s)
-    unfolding rows_of rows_answer ◌>>=◌ ask
-    rows_over h l = rw (le-leb 4 (length s) long, ← last_is, le-leb 1 n h, lt-leb (4 * n + 4) (length s) (omega arith))
+    pub rows_over : 1 ≤ n → last < 4 * n → None ≡ given (rows_of s)
+    unfolding rows_of given ◌>>=◌ ask
+    rows_over h l = rw (le-leb 4 (length s) (omega arith), ← last_is, le-leb 1 n h, lt-leb (4 * n + 4) (length s) (omega arith))
 
-    pub rows_some : 1 ≤ n → 4 * n ≤ length s - 4 → RowsCase.Rows (length s - 4 - 4 * n) n ≡ rows_answer (rows_of s)
-    unfolding rows_of rows_answer ◌>>=◌ ask
+    pub rows_some : 1 ≤ n → 4 * n ≤ last → Some (record { end = last - 4 * n; count = n }) ≡ given (rows_of s)
+    unfolding rows_of given ◌>>=◌ ask
     rows_some h l =
-        let e : length s - 4 - 4 * n ≡ length s - (4 * n + 4) = omega arith in
-        rw (le-leb 4 (length s) long, ← last_is, le-leb 1 n h, le-leb (4 * n + 4) (length s) (omega arith), e)
+        let e : last - 4 * n ≡ length s - (4 * n + 4) = omega arith in
+        rw (le-leb 4 (length s) (omega arith), ← last_is, le-leb 1 n h, le-leb (4 * n + 4) (length s) (omega arith), e)
 
 -- ---- the restarts
 
 restart_part : (s : List ℕ) (end j : ℕ) → restart_at s end j ≡ number_of (part (drop end s) (4 * j) 4)
 unfolding restart_at
 restart_part s end j = ap number_of (sym (part_drop s end (4 * j) 4))
+
+-- it is there to be read
+pub restart_given : (s : List ℕ) (end j : ℕ) → end + 4 * j + 4 ≤ length s → given (number_at 4 s (end + 4 * j)) ≡ Some (restart_at s end j)
+unfolding restart_at given
+restart_given s end j h = rw (number_in_lem 4 s (end + 4 * j) h)
 
 pub numbers_length : (n : ℕ) (t : List ℕ) → length (numbers n t) ≡ n
 unfolding numbers
@@ -123,30 +128,21 @@ block_by s =
     let w : Rows = record { end = length s - (4 * n + 4); count = n } in
     asks (leb 4 (length s)) (leb 1 n) (leb (4 * n + 4) (length s)) w (content s) (λ f. content_none s w (omega (arith, leb-false 1 n f)))
 
--- the layout that an answer says
-abbrev pub rows_in : RowsRead → Option Rows
-rows_in RowsCase.Bad = none
-rows_in (RowsCase.Rows end count) = some (record { end = end; count = count })
-
-pub rows_said : (o : Option Rows) {r : RowsRead} → rows_answer o ≡ r → o ≡ rows_in r
-unfolding rows_answer
-rows_said = came_of rows_answer rows_in (λ o. elim o as (λ o. rows_in (rows_answer o) ≡ o) [ none ↦ refl | some w ↦ refl ])
-
-pub no_block : (s : List ℕ) → rows_answer (rows_of s) ≡ RowsCase.Bad → block s ≡ none
+pub no_block : (s : List ℕ) → given (rows_of s) ≡ None → block s ≡ none
 unfolding ◌>>=◌
-no_block s e = block_by s ∙ ap (λ (o : Option Rows). o >>= content s) (rows_said (rows_of s) e)
+no_block s e = block_by s ∙ ap (λ (o : Option Rows). o >>= content s) (said (rows_of s) e)
 
-pub laid : (s : List ℕ) {end count : ℕ} → rows_answer (rows_of s) ≡ RowsCase.Rows end count → Laid s end count
+pub laid : (s : List ℕ) {w : Rows} → given (rows_of s) ≡ Some w → Laid s w.end w.count
 unfolding rows_of
-laid s {end} {count} e =
-    let r = rows_said (rows_of s) e in
+laid s {w} e =
+    let r = said (rows_of s) e in
     giving _ _ r λ long p.
     giving _ _ p λ one p.
     giving _ _ p λ room p.
     let n : ℕ = number_of (drop (length s - 4) s) in
-    let w = some_inj.0 p in
-    let a : length s - (4 * n + 4) ≡ end = ap (λ (w : Rows). w.end) w in
-    let b : n ≡ count = ap (λ (w : Rows). w.count) w in
+    let same = some_inj.0 p in
+    let a : length s - (4 * n + 4) ≡ w.end = ap (λ (w : Rows). w.end) same in
+    let b : n ≡ w.count = ap (λ (w : Rows). w.count) same in
     let h = leb→le 1 n one in
     let g = leb→le (4 * n + 4) (length s) room in
     record { some_restart = omega arith; fits = omega arith; reads = r }

@@ -1,3 +1,4 @@
+pub mod ExitLaws
 pub mod EntryLaws
 pub mod LayoutLaws
 pub mod WalkLaws

@@ -16,20 +16,20 @@ use Rattle.codec.proofs.MaybeLaws.{getting, giving, gets, gives}
 use Rattle.codec.proofs.Prelude.{and_r, is_true, true_is}
 use Rattle.keys.specs.Order.{Point, point_of, by_point, is_less}
 use Rattle.keys.proofs.OrderLaws.{◌≺◌}
-use Rattle.block_reader.specs.declared.block.Found.{Found}
-use Rattle.block_reader.specs.declared.block.Found.TheVariants as FoundCase
-use Rattle.block_reader.specs.declared.block.RowsRead.TheVariants as RowsCase
+use Rattle.std.specs.Prelude.{None, Err}
+use Rattle.codec.specs.Answers.{given}
+use Rattle.block_reader.specs.declared.block.BlockError.TheVariants.{NoPlace, Bad}
+use Rattle.block_reader.specs.declared.block.EntryRead.{EntryRead}
 use Rattle.block_reader.specs.declared.block.Which.{Which}
 use Rattle.block_reader.specs.declared.block.Which.TheVariants as WhichCase
 use Rattle.blocks.specs.Block.{Pair, Entry, pairs_of, restarts_stand, first_is_zero, Block}
 use Rattle.blocks.specs.Formed.{all}
 use Rattle.blocks.specs.Search.{readable, reaches, seek_in, first_in, in_order, any_order}
-use Rattle.block_reader.specs.Said.{pick, place_in, next_in, at_in, found_answer, buffer_left, Said}
-use Rattle.block_reader.specs.Steps.{rows_of, rows_answer, Laid, restart_at, entries_from, read_from, Told, From, BelowAt}
+use Rattle.block_reader.specs.Said.{pick, place_in, next_in, at_in, Found, found_answer, buffer_left, Said}
+use Rattle.block_reader.specs.Steps.{rows_of, Laid, restart_at, entries_from, read_from, Taken, Told, From, BelowAt}
 use Rattle.blocks.proofs.ReadLaws.{entry_start, entry_ends, Reads, reads_of, reads_back, reads_count, StartsBefore, starts_rise, restart_reads, skip_entries}
 use Rattle.blocks.proofs.FormedLaws.{rises_pairs}
 use Rattle.block_reader.proofs.LayoutLaws.{restarts_have, numbers_length, no_block, block_is, entries_size}
-use Rattle.block_reader.proofs.EntryLaws.{Taken}
 use Rattle.block_reader.proofs.WalkLaws.{read_next, taken_first, told_by}
 
 -- ---- a search, entry by entry
@@ -80,11 +80,11 @@ readable_read s {end} {count} l {es} p =
     record { reads = rw e at (reads_of (suc end) (take end s) 0 [] fs from); stand = rw e at stand; fits = rw same at fits }
 
 -- without a layout nothing can be read
-pub never_read : (s : List ℕ) → rows_answer (rows_of s) ≡ RowsCase.Bad → {es : List Entry} → readable s ≡ some es → ⊥
+pub never_read : (s : List ℕ) → given (rows_of s) ≡ None → {es : List Entry} → readable s ≡ some es → ⊥
 unfolding readable
 never_read s e read = getting _ _ read λ b whole p. none-ne-some b (sym (no_block s e) ∙ whole)
 
-pub said_bad : (s : List ℕ) (says : List Entry → Option (Option Entry)) (ordered : List Entry → Bool) (k : List ℕ) → rows_answer (rows_of s) ≡ RowsCase.Bad → Said s says ordered k FoundCase.Bad k
+pub said_bad : (s : List ℕ) (says : List Entry → Option (Option Entry)) (ordered : List Entry → Bool) (k : List ℕ) → given (rows_of s) ≡ None → Said s says ordered k (Err Bad) k
 said_bad s says ordered k e = record { answer = λ es read o. absurd (never_read s e read); buffer = λ es read o. absurd (never_read s e read); inside = refl }
 
 -- ---- reading from a place on
@@ -183,13 +183,13 @@ module _ (s : List ℕ) {end count : ℕ} (l : Laid s end count) where
             place_past which at b (bs ++ (e ∷ cs)) (λ g. omega arith) ∙ skip at bs e cs h qs
 
   -- below a target: so are all entries before it
-  pub from_below : (j : ℕ) → 1 ≤ j → j < count → (p : Point) {r : ℕ} → BelowAt s d end j p r → From s d (seek_in p) in_order r
+  pub from_below : (j : ℕ) → 1 ≤ j → j < count → (p : Point) {r : ℕ} → r ≡ restart_at s end j → BelowAt d p r → From s d (seek_in p) in_order r
   unfolding in_order seek_in
-  from_below j later is p {r} b =
+  from_below j later is p {r} at b =
       record {
         within = omega (arith, b.inside);
         skips = λ es read o.
-            let x = suffix j later is b.is (omega (arith, b.inside)) (readable_read s l read) in
+            let x = suffix j later is at (omega (arith, b.inside)) (readable_read s l read) in
             let n = read_next d r [] x.reads b.inside in
             let e : b.here ≡ x.here = some_inj.0 (sym b.reads ∙ n.reads) ∙ sym (head_is n.is) in
             let lower : point_of x.here.key ≺ p = record { is = true_is (rw e at b.below) } in
@@ -204,7 +204,7 @@ module _ (s : List ℕ) {end count : ℕ} (l : Laid s end count) where
       head_is e = cc
 
   -- past the end there is no place
-  pub no_place_end : (which : Which) (at : ℕ) (k : List ℕ) → end ≤ at → Said s (place_in which at) any_order k FoundCase.NoPlace k
+  pub no_place_end : (which : Which) (at : ℕ) (k : List ℕ) → end ≤ at → Said s (place_in which at) any_order k (Err NoPlace) k
   unfolding found_answer buffer_left
   no_place_end which at k h =
       let none_there : (es : List Entry) → readable s ≡ some es → place_in which at es ≡ none = λ es read. place_none which at (readable_read s l read).reads (omega arith) (λ x a b e. omega (arith, entries_size s l)) in
@@ -212,14 +212,14 @@ module _ (s : List ℕ) {end count : ℕ} (l : Laid s end count) where
 
 -- ---- the entry after one that was taken
 
-pub told_next : {d : List ℕ} {at : ℕ} {k : List ℕ} {m : ℕ} {k' : List ℕ} {sh n a v : ℕ} (t : Taken d at k m k' sh n a v) {key : List ℕ} {r : Found} {key' : List ℕ}
-    → Told d (a + v) (take n k') first_in key r key' → Told d at (take m k) (next_in at) key r key'
+pub told_next : {d : List ℕ} {at : ℕ} {before : List ℕ} {e : EntryRead} {k : List ℕ} (t : Taken d at before e k) {key : List ℕ} {r : Found} {key' : List ℕ}
+    → Told d (e.value_at + e.value_len) k first_in key r key' → Told d at before (next_in at) key r key'
 unfolding pick first_in
-told_next {d} {at} {k} {m} t w =
+told_next {d} {at} {before} t w =
     told_by
     (λ es read.
     let f = taken_first t es read in
-    record { rest = f.rest; reads = f.onward; same = ap (next_in at) f.is ∙ place_here WhichCase.After at t.step.here f.rest (entry_start at (take m k) (drop at d) t.step.reads) })
+    record { rest = f.rest; reads = f.onward; same = ap (next_in at) f.is ∙ place_here WhichCase.After at t.here f.rest (entry_start at before (drop at d) t.reads) })
     w
 
 -- the entry at the place itself

@@ -6,19 +6,17 @@ use mathlib.Core.Bool.{false, ◌&&◌}
 use mathlib.Core.Option.{Option, none, some, some_inj, none-ne-some}
 use native.Mathlib.Omega.{arith}
 use lib.Dec.{T, eqb, leb, leb→le}
-use lib.ListN.{length, take, drop}
+use lib.ListN.{length, drop}
 use borrow.Author.Tests.{eq-eqb, ne_eqb}
 use Rattle.codec.specs.Maybe.{◌>>=◌}
 use Rattle.codec.proofs.MaybeLaws.{getting, giving, gets, gives}
 use Rattle.codec.proofs.Prelude.{and_l, and_r}
-use Rattle.block_reader.specs.declared.block.EntryRead.TheVariants as EntryCase
-use Rattle.block_reader.specs.declared.block.Found.{Found}
+use Rattle.block_reader.specs.declared.block.EntryRead.{EntryRead}
 use Rattle.blocks.specs.Block.{Pair, Entry, entry, next, entries_f, pairs_of}
 use Rattle.blocks.specs.Formed.{all}
-use Rattle.block_reader.specs.Said.{entry_answer, found_answer, buffer_left}
-use Rattle.block_reader.specs.Steps.{entries_from, read_from, Told}
+use Rattle.block_reader.specs.Said.{Found, found_answer, buffer_left}
+use Rattle.block_reader.specs.Steps.{entries_from, read_from, Taken, Untaken, Told}
 use Rattle.blocks.proofs.ReadLaws.{entry_ends, fuel_enough}
-use Rattle.block_reader.proofs.EntryLaws.{no_step, Taken}
 
 -- what is said of a key is said of the same key
 pub said_of : {A B : Type 0} (f : A → B) {q k : A} {r b : B} → q ≡ k → r ≡ f q → r ≡ b → f k ≡ b
@@ -97,61 +95,60 @@ pub record Left (d : List ℕ) (P : List Entry → Type 0) (p : ℕ) (before : L
   pub reads : read_from d p before ≡ some rest
   pub same : P rest
 
--- between two turns: the key before p is the first m bytes of the buffer k, and P holds of all entries and those that are left
-pub record Scanning (d : List ℕ) (from : ℕ) (P : List Entry → List Entry → Type 0) (k : List ℕ) (m p : ℕ) : Type 0 where
-  pub room : length k ≡ 1032
+-- between two turns: behind a key, P holds of all entries and those that are left
+pub record Scanning (d : List ℕ) (from : ℕ) (P : List Entry → List Entry → Type 0) (before : List ℕ) (p : ℕ) : Type 0 where
   pub within : p ≤ length d
-  pub left : (es : List Entry) → read_from d from [] ≡ some es → Left d (P es) p (take m k)
+  pub left : (es : List Entry) → read_from d from [] ≡ some es → Left d (P es) p before
 
 -- the same is said of those that are left as of all
 abbrev pub Same : {R : Type 0} → (List Entry → R) → List Entry → List Entry → Type 0
 Same says es rest = says es ≡ says rest
 
-pub scan_start : (d : List ℕ) (from : ℕ) (P : List Entry → List Entry → Type 0) (k : List ℕ) → length k ≡ 1032 → from ≤ length d → ((es : List Entry) → P es es) → Scanning d from P k 0 from
-scan_start d from P k r w h = record { room = r; within = w; left = λ es read. record { rest = es; reads = read; same = h es } }
+pub scan_start : (d : List ℕ) (from : ℕ) (P : List Entry → List Entry → Type 0) → from ≤ length d → ((es : List Entry) → P es es) → Scanning d from P [] from
+scan_start d from P w h = record { within = w; left = λ es read. record { rest = es; reads = read; same = h es } }
 
 -- no entry, or one with a longer key, can be read there
-pub no_read : (d : List ℕ) (p : ℕ) (before : List ℕ) {n : ℕ} → p < length d → n ≡ 1032 → entry_answer n (entry p before (drop p d)) ≡ EntryCase.Bad → (es : List Entry) → read_from d p before ≡ some es → ⊥
-no_read d p before inside r bad es read =
+pub no_read : (d : List ℕ) (p : ℕ) (before : List ℕ) → p < length d → Untaken d p before → (es : List Entry) → read_from d p before ≡ some es → ⊥
+no_read d p before inside bad es read =
     let x = read_next d p before read inside in
-    no_step bad x.reads (omega (arith, x.short))
+    bad x.here x.reads x.short
 
 -- the entry that was taken is the first
-pub record Firsts (d : List ℕ) (k : List ℕ) (e : Entry) (n p : ℕ) (es : List Entry) : Type 0 where
+pub record Firsts (d key : List ℕ) (e : Entry) (p : ℕ) (es : List Entry) : Type 0 where
   pub rest : List Entry
   pub is : es ≡ e ∷ rest
-  pub onward : read_from d p (take n k) ≡ some rest
+  pub onward : read_from d p key ≡ some rest
 
-pub taken_first : {d : List ℕ} {p : ℕ} {k : List ℕ} {m : ℕ} {k' : List ℕ} {sh n a v : ℕ} (t : Taken d p k m k' sh n a v) (es : List Entry) → read_from d p (take m k) ≡ some es → Firsts d k' t.step.here n (a + v) es
-taken_first {d} {p} {k} {m} {k'} {n = n} {a = a} {v = v} t es read = go (read_next d p (take m k) read (omega (arith, t.step)))
+pub taken_first : {d : List ℕ} {p : ℕ} {before : List ℕ} {e : EntryRead} {key : List ℕ} (t : Taken d p before e key) (es : List Entry) → read_from d p before ≡ some es
+    → Firsts d key t.here (e.value_at + e.value_len) es
+taken_first {d} {p} {before} {e} {key} t es read = go (read_next d p before read (omega (arith, t.up, t.within)))
   where
-    go : Nexts d p (take m k) es → Firsts d k' t.step.here n (a + v) es
+    go : Nexts d p before es → Firsts d key t.here (e.value_at + e.value_len) es
     go x =
-        let e : x.here ≡ t.step.here = some_inj.0 (sym x.reads ∙ t.step.reads) in
-        record { rest = x.rest; is = x.is ∙ ap (λ (h : Entry). h ∷ x.rest) e; onward = rw (← t.step.ends, t.key) (rw e at x.onward) }
+        let same : x.here ≡ t.here = some_inj.0 (sym x.reads ∙ t.reads) in
+        record { rest = x.rest; is = x.is ∙ ap (λ (h : Entry). h ∷ x.rest) same; onward = rw (← t.ends, t.key) (rw same at x.onward) }
 
-module _ {d : List ℕ} {from : ℕ} {P : List Entry → List Entry → Type 0} {k : List ℕ} {m p : ℕ} (w : Scanning d from P k m p) where
-  pub scan_bad : {n : ℕ} → p < length d → n ≡ length k → entry_answer n (entry p (take m k) (drop p d)) ≡ EntryCase.Bad → (es : List Entry) → read_from d from [] ≡ some es → ⊥
-  scan_bad inside r bad es read = let l = w.left es read in no_read d p (take m k) inside (r ∙ w.room) bad l.rest l.reads
+module _ {d : List ℕ} {from : ℕ} {P : List Entry → List Entry → Type 0} {before : List ℕ} {p : ℕ} (w : Scanning d from P before p) where
+  pub scan_bad : p < length d → Untaken d p before → (es : List Entry) → read_from d from [] ≡ some es → ⊥
+  scan_bad inside bad es read = let l = w.left es read in no_read d p before inside bad l.rest l.reads
 
   pub scan_end : length d ≤ p → (es : List Entry) → read_from d from [] ≡ some es → P es []
   scan_end h es read =
       let l = w.left es read in
-      rw (read_end d p (take m k) l.reads (omega (arith, w.within))) at l.same
+      rw (read_end d p before l.reads (omega (arith, w.within))) at l.same
 
-  module _ {k' : List ℕ} {sh n a v : ℕ} (t : Taken d p k m k' sh n a v) where
-    pub scan_more : (Q : List Entry → List Entry → Type 0) → ((es rest : List Entry) → P es (t.step.here ∷ rest) → Q es rest) → Scanning d from Q k' n (a + v)
+  module _ {e : EntryRead} {key : List ℕ} (t : Taken d p before e key) where
+    pub scan_more : (Q : List Entry → List Entry → Type 0) → ((es rest : List Entry) → P es (t.here ∷ rest) → Q es rest) → Scanning d from Q key (e.value_at + e.value_len)
     scan_more Q step =
         record {
-          room = t.room;
-          within = t.step.within;
+          within = t.within;
           left = λ es read.
               let l = w.left es read in
               let f = taken_first t l.rest l.reads in
               record { rest = f.rest; reads = f.onward; same = step es f.rest (rw f.is at l.same) };
         }
 
-    pub scan_hit : (X : List Entry → Type 0) → ((es rest : List Entry) → P es (t.step.here ∷ rest) → X es) → (es : List Entry) → read_from d from [] ≡ some es → X es
+    pub scan_hit : (X : List Entry → Type 0) → ((es rest : List Entry) → P es (t.here ∷ rest) → X es) → (es : List Entry) → read_from d from [] ≡ some es → X es
     scan_hit X hit es read =
         let l = w.left es read in
         let f = taken_first t l.rest l.reads in
@@ -167,6 +164,6 @@ told_by on t =
       inside = t.inside;
     }
 
-pub scan_told : {d : List ℕ} {from : ℕ} {says : List Entry → Option (Option Entry)} {k : List ℕ} {m p : ℕ} (w : Scanning d from (Same says) k m p)
-    {key : List ℕ} {r : Found} {key' : List ℕ} → Told d p (take m k) says key r key' → Told d from [] says key r key'
+pub scan_told : {d : List ℕ} {from : ℕ} {says : List Entry → Option (Option Entry)} {before : List ℕ} {p : ℕ} (w : Scanning d from (Same says) before p)
+    {key : List ℕ} {r : Found} {key' : List ℕ} → Told d p before says key r key' → Told d from [] says key r key'
 scan_told w t = told_by w.left t

@@ -1,12 +1,13 @@
 -- What reading a block answers and leaves in the key buffer: by meaning on blocks that can be read, and inside on any bytes.
-use Rattle.std.specs.Prelude.{ℕ, ◌+◌, ◌≤◌, ◌≡◌, Bool, true, false, eqb, leb, length}
+use Rattle.std.specs.Prelude.{ℕ, ◌+◌, ◌≤◌, ◌≡◌, Bool, true, false, eqb, leb, length, Result, Ok, Err, None, Some}
+use Rattle.std.specs.Prelude as code
 use mathlib.Core.List.{List, [], ◌∷◌, head?}
 use Rattle.std.proofs.Math.Option.{Option, none, some}
 use Rattle.codec.specs.Put.{put}
+use Rattle.block_reader.specs.declared.block.BlockError.{BlockError}
+use Rattle.block_reader.specs.declared.block.BlockError.TheVariants.{NoPlace, Bad}
+use Rattle.block_reader.specs.declared.block.Entry as Declared
 use Rattle.block_reader.specs.declared.block.EntryRead.{EntryRead}
-use Rattle.block_reader.specs.declared.block.EntryRead.TheVariants as EntryCase
-use Rattle.block_reader.specs.declared.block.Found.{Found}
-use Rattle.block_reader.specs.declared.block.Found.TheVariants as FoundCase
 use Rattle.block_reader.specs.declared.block.Which.{Which}
 use Rattle.block_reader.specs.declared.block.Which.TheVariants as WhichCase
 use Rattle.block_reader.specs.declared.block.Kind as KindEnum
@@ -25,10 +26,13 @@ kind_of KindCase.Metaindex = meta_block
 
 -- an entry read from the rest of a block: how much it shares, how long its key is, where in the rest its value starts, and how long that is;
 -- none where the key buffer, of n bytes, has no room for its key
-unfoldable pub entry_answer : ℕ → Option Entry → EntryRead
-entry_answer n none = EntryCase.Bad
+unfoldable pub entry_answer : ℕ → Option Entry → code.Option EntryRead
+entry_answer n none = None
 entry_answer n (some e) =
-    elim (leb (length e.key) n) [ true ↦ EntryCase.Entry e.shared (length e.key) e.value_at (length e.value) | false ↦ EntryCase.Bad ]
+    elim (leb (length e.key) n) [
+      | true ↦ Some (record { shared = e.shared; key_len = length e.key; value_at = e.value_at; value_len = length e.value })
+      | false ↦ None
+    ]
 
 -- the key buffer then: the key at its front, the rest as it was; all as it was without an entry or without room
 unfoldable pub key_left : List ℕ → Option Entry → List ℕ
@@ -55,12 +59,19 @@ at_in at es = place_in WhichCase.Here at es
 abbrev pub next_in : ℕ → List Entry → Option (Option Entry)
 next_in at es = place_in WhichCase.After at es
 
+-- the code's answers: an entry, none, or an error
+abbrev pub Found : Type 0
+Found = Result (code.Option Declared.Entry) BlockError
+
 -- the answer: an entry, none, or that no entry starts at the place; bad where the key buffer, of n bytes, has no room for the entry's key
 unfoldable pub found_answer : ℕ → Option (Option Entry) → Found
-found_answer n none = FoundCase.NoPlace
-found_answer n (some none) = FoundCase.None
+found_answer n none = Err NoPlace
+found_answer n (some none) = Ok None
 found_answer n (some (some e)) =
-    elim (leb (length e.key) n) [ true ↦ FoundCase.Entry e.start (length e.key) e.value_at (length e.value) | false ↦ FoundCase.Bad ]
+    elim (leb (length e.key) n) [
+      | true ↦ Ok (Some (record { start = e.start; key_len = length e.key; value_at = e.value_at; value_len = length e.value }))
+      | false ↦ Err Bad
+    ]
 
 -- and the key buffer
 unfoldable pub buffer_left : List ℕ → Option (Option Entry) → List ℕ
@@ -69,11 +80,11 @@ buffer_left k (some o) = key_left k o
 
 -- on any bytes: an entry's value lies in the block, and the buffer has a key at its front; else the buffer is as it was
 abbrev pub Inside : List ℕ → List ℕ → Found → List ℕ → Type 0
-Inside s k (FoundCase.Entry start n at len) k' =
-    (at + len ≤ length s) × (n ≤ 1032) × (n ≤ length k) × ((x : List ℕ) × (length x ≡ n) × (k' ≡ put k 0 x))
-Inside s k FoundCase.None k' = k' ≡ k
-Inside s k FoundCase.NoPlace k' = k' ≡ k
-Inside s k FoundCase.Bad k' = k' ≡ k
+Inside s k (Ok (Some e)) k' =
+    (e.value_at + e.value_len ≤ length s) × (e.key_len ≤ 1032) × (e.key_len ≤ length k)
+    × ((x : List ℕ) × (length x ≡ e.key_len) × (k' ≡ put k 0 x))
+Inside s k (Ok None) k' = k' ≡ k
+Inside s k (Err e) k' = k' ≡ k
 
 -- reading a block s with a key buffer k answers r and leaves k': what is said of its entries, where it is readable and they are ordered so
 pub record Said (s : List ℕ) (says : List Entry → Option (Option Entry)) (ordered : List Entry → Bool) (k : List ℕ) (r : Found) (k' : List ℕ) : Type 0 where

@@ -1,26 +1,20 @@
 -- What the steps of reading a block answer: an entry's numbers, the layout, one entry of the check, and a reading from a place on.
-use Rattle.std.specs.Prelude.{ℕ, suc, ◌+◌, ◌*◌, ◌-◌, ◌≤◌, ◌<◌, ◌≡◌, List, [], ◌∷◌, Bool, true, false, ◌&&◌, leb, eqb, length, take, drop}
+use Rattle.std.specs.Prelude.{ℕ, suc, ◌⊎◌, ◌+◌, ◌*◌, ◌-◌, ◌≤◌, ◌<◌, ◌≡◌, List, [], ◌∷◌, Bool, true, false, ◌&&◌, leb, eqb, length, take, drop, Ok, Err, None, Some}
+use Rattle.std.specs.Prelude as code
 use Rattle.std.proofs.Math.Option.{Option, none, some}
 use Rattle.codec.specs.Bytes.{part, number_of}
 use Rattle.codec.specs.Maybe.{◌>>=◌, ask}
 use Rattle.codec.specs.Put.{put}
 use Rattle.keys.specs.Order.{Point, point_of, by_point, is_less}
-use Rattle.block_reader.specs.declared.block.FreshRead.{FreshRead}
-use Rattle.block_reader.specs.declared.block.FreshRead.TheVariants as FreshCase
-use Rattle.block_reader.specs.declared.block.Found.{Found}
-use Rattle.block_reader.specs.declared.block.Found.TheVariants as FoundCase
-use Rattle.block_reader.specs.declared.block.HeadRead.{HeadRead}
-use Rattle.block_reader.specs.declared.block.HeadRead.TheVariants as HeadCase
+use Rattle.block_reader.specs.declared.block.BlockError.TheVariants.{Bad}
+use Rattle.block_reader.specs.declared.block.EntryRead.{EntryRead}
+use Rattle.block_reader.specs.declared.block.Head as Declared
 use Rattle.block_reader.specs.declared.block.Passed.{Passed}
-use Rattle.block_reader.specs.declared.block.Passed.TheVariants as PassedCase
-use Rattle.block_reader.specs.declared.block.Probe.{Probe}
-use Rattle.block_reader.specs.declared.block.Probe.TheVariants as ProbeCase
-use Rattle.block_reader.specs.declared.block.RowsRead.{RowsRead}
-use Rattle.block_reader.specs.declared.block.RowsRead.TheVariants as RowsCase
-use Rattle.blocks.specs.Block.{Pair, Head, head, Entry, entry, pairs_of, entries_f, restarts_stand}
+use Rattle.block_reader.specs.declared.block.Rows as DeclaredRows
+use Rattle.blocks.specs.Block.{Pair, Head, head, Entry, entry, next, pairs_of, entries_f, restarts_stand}
 use Rattle.blocks.specs.Formed.{Kind, entry_fits, all}
 use Rattle.blocks.specs.Search.{readable}
-use Rattle.block_reader.specs.Said.{found_answer, buffer_left, Inside}
+use Rattle.block_reader.specs.Said.{Found, found_answer, buffer_left, Inside}
 
 -- ---- an entry
 
@@ -33,28 +27,49 @@ head_after n rest = do
   some h
 
 -- the code's answer on an entry's head
-unfoldable pub head_answer : Option Head → HeadRead
-head_answer none = HeadCase.Bad
-head_answer (some h) = HeadCase.Head h.shared h.fresh h.value_size h.size
+unfoldable pub head_answer : Option Head → code.Option Declared.Head
+head_answer none = None
+head_answer (some h) = Some (record { shared = h.shared; fresh = h.fresh; value_size = h.value_size; size = h.size })
 
--- an entry at a place of d, read after no key: its key is a part of d, n bytes at a
-pub record Fresh (d : List ℕ) (at a n : ℕ) : Type 0 where
+-- an entry that the code read at a place of d, behind a key, with the place of its value in d, and its key: that has at most 1,032 bytes
+pub record Taken (d : List ℕ) (at : ℕ) (before : List ℕ) (e : EntryRead) (after : List ℕ) : Type 0 where
+  pub here : Entry
+  pub reads : entry at before (drop at d) ≡ some here
+  pub shared : here.shared ≡ e.shared
+  pub key : after ≡ here.key
+  pub key_size : length here.key ≡ e.key_len
+  pub value_at : here.value_at ≡ e.value_at
+  pub value_size : length here.value ≡ e.value_len
+  pub room : e.key_len ≤ 1032
+  pub ends : next here ≡ e.value_at + e.value_len
+  pub up : at < e.value_at + e.value_len
+  pub within : e.value_at + e.value_len ≤ length d
+
+-- no entry with such a key is there
+abbrev pub Untaken : List ℕ → ℕ → List ℕ → Type 0
+Untaken d at before = (e : Entry) → entry at before (drop at d) ≡ some e → length e.key ≤ 1032 → ⊥
+
+-- the code's answer on the entry at a place of d, and the key then: that of the entry, or the key before
+abbrev pub TakenAt : List ℕ → ℕ → List ℕ → code.Option EntryRead → List ℕ → Type 0
+TakenAt d at before (Some e) key = Taken d at before e key
+TakenAt d at before None key = Untaken d at before × (key ≡ before)
+
+-- an entry at a place of d, read after no key: its key is a part of d
+pub record Fresh (d : List ℕ) (at : ℕ) (key : List ℕ) : Type 0 where
   pub here : Entry
   pub reads : entry at [] (drop at d) ≡ some here
-  pub key : here.key ≡ part d a n
-  pub within : a + n ≤ length d
+  pub is : here.key ≡ key
 
 -- the code's answer on the key of an entry at a restart
-abbrev pub FreshAt : List ℕ → ℕ → FreshRead → Type 0
-FreshAt d at (FreshCase.Key a n) = Fresh d at a n
-FreshAt d at FreshCase.Bad = entry at [] (drop at d) ≡ none
+abbrev pub FreshAt : List ℕ → ℕ → code.Option (List ℕ) → Type 0
+FreshAt d at (Some key) = Fresh d at key
+FreshAt d at None = entry at [] (drop at d) ≡ none
 
 -- ---- the layout
 
 -- where the restarts start, and how many there are
-pub record Rows : Type 0 where
-  pub end : ℕ
-  pub count : ℕ
+abbrev pub Rows : Type 0
+Rows = DeclaredRows.Rows
 
 -- the layout that a block's last bytes tell: one restart at least, and room for all of them
 unfoldable pub rows_of : List ℕ → Option Rows
@@ -64,11 +79,6 @@ rows_of s = do
   _ ← ask (leb 1 n)
   _ ← ask (leb (4 * n + 4) (length s))
   some (record { end = length s - (4 * n + 4); count = n })
-
--- the code's answer on where the restarts are
-unfoldable pub rows_answer : Option Rows → RowsRead
-rows_answer none = RowsCase.Bad
-rows_answer (some w) = RowsCase.Rows w.end w.count
 
 -- s has such a layout: a restart at least, and all of them and their count behind the entries
 pub record Laid (s : List ℕ) (end count : ℕ) : Type 0 where
@@ -103,16 +113,17 @@ pub record Onward (kind : Kind) (d rs : List ℕ) (at : ℕ) (before : List ℕ)
   pub within : next ≤ length d
   pub marks : i ≤ length rs
 
--- the code's answer on one entry of the check
-abbrev pub Passes : Kind → List ℕ → List ℕ → ℕ → List ℕ → ℕ → Passed → List ℕ → Type 0
-Passes kind d rs at before j (PassedCase.On n next i) k' = Onward kind d rs at before j next (take n k') i
-Passes kind d rs at before j PassedCase.Wrong k' = filled_from kind d at before (drop j rs) ≡ false
+-- the code's answer on one entry of the check, and the key then
+abbrev pub Passes : Kind → List ℕ → List ℕ → ℕ → List ℕ → ℕ → code.Option Passed → List ℕ → Type 0
+Passes kind d rs at before j (Some p) key = Onward kind d rs at before j p.at key p.mark
+Passes kind d rs at before j None key = filled_from kind d at before (drop j rs) ≡ false
 
 -- ---- reading on
 
 -- an entry found is handed over: its key goes to the front of the key buffer, where there is room
 unfoldable pub hand_answer : List ℕ → List ℕ → ℕ → ℕ → ℕ → Found
-hand_answer k key start at v = elim (leb (length key) (length k)) [ true ↦ FoundCase.Entry start (length key) at v | false ↦ FoundCase.Bad ]
+hand_answer k key start at v =
+    elim (leb (length key) (length k)) [ true ↦ Ok (Some (record { start = start; key_len = length key; value_at = at; value_len = v })) | false ↦ Err Bad ]
 
 -- an entry handed over: the answer, and the key buffer
 pub record Handed (k key : List ℕ) (start at v : ℕ) (r : Found) (k' : List ℕ) : Type 0 where
@@ -145,15 +156,13 @@ pub record From (s d : List ℕ) (says : List Entry → Option (Option Entry)) (
 
 -- ---- restarts
 
--- the entry at restart j is below a target: it is read after no key
-pub record BelowAt (s d : List ℕ) (end j : ℕ) (p : Point) (r : ℕ) : Type 0 where
-  pub is : r ≡ restart_at s end j
+-- r is a restart behind the first, of which a test holds, or the first place
+abbrev pub Chosen : List ℕ → ℕ → ℕ → (ℕ → Type 0) → ℕ → Type 0
+Chosen s end count test r = (r ≡ 0) ⊎ ((j : ℕ) × (1 ≤ j) × (j < count) × (r ≡ restart_at s end j) × test r)
+
+-- the entry at a place is below a target: it is read after no key
+pub record BelowAt (d : List ℕ) (p : Point) (r : ℕ) : Type 0 where
   pub inside : r < length d
   pub here : Entry
   pub reads : entry r [] (drop r d) ≡ some here
   pub below : is_less (by_point (point_of here.key) p) ≡ true
-
--- the code's answer on a restart against a target
-abbrev pub Probed : List ℕ → List ℕ → ℕ → ℕ → Point → Probe → Type 0
-Probed s d end j p (ProbeCase.Below r) = BelowAt s d end j p r
-Probed s d end j p ProbeCase.Not = Unit {0}

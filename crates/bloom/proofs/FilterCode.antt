@@ -1,77 +1,45 @@
 -- One filter as the code goes: its size without overflow, its places and bits one by one, and its bytes in a part of a run.
-use Rattle.std.proofs.Common.{◌≡◌, ℕ, suc, ◌+◌, ◌-◌, ◌*◌, ◌/◌, ◌%◌, ◌^◌, ◌<◌, ◌≤◌, min, max, Bool, true, ◌&&◌, eqb, List, [], ◌∷◌, ◌++◌, length, get_or, take, drop, set, replicate, sym, refl, ap, ◌∙◌, mul-le-mul_right, mod-lt, mod-eq_of_lt, mul_assoc, div-lt_iff_lt-mul, add-mul, mul-zero, le-div_iff_mul-le, add-one, arith, drop_of_length-le, length-take-le, drop-cons, le-ltb, lt-ltb}
+use Rattle.std.proofs.Common.{Option, None, Some, Ok, ◌≡◌, ℕ, suc, ◌+◌, ◌-◌, ◌*◌, ◌/◌, ◌%◌, ◌^◌, ◌<◌, ◌≤◌, min, Bool, true, false, ◌&&◌, eqb, ltb, List, [], ◌∷◌, ◌++◌, length, get_or, take, drop, set, replicate, sym, refl, ap, ◌∙◌, mod-eq_of_lt, add-one, arith, drop_of_length-le, drop-cons}
 use mathlib.Core.Bool.{or-true}
 use native.Mathlib.Nat.{sub-zero}
 use lib.Bits.{bit_or}
-use lib.ListN.{length-replicate}
+use lib.ListN.{length-append, length-replicate, length-take, length-drop}
+use lib.Seq.{take-append_seam, get_or-append_seam}
 use lib.Pow.{pow-lt}
-use borrow.Author.Tests.{lt-leb}
-use Rattle.codec.specs.declared.put.Written.TheVariants.{At}
+use borrow.Author.Tests.{lt-leb, eqb-false}
 use Rattle.codec.specs.Put.{put, Wrote}
-use Rattle.codec.proofs.BytesLaws.{part_between, part_length}
 use Rattle.codec.proofs.Prelude.{split}
 use Rattle.codec.proofs.PutLaws.{answer_room, put_length, wrote_sets, wrote_then, mid_put}
-use Rattle.bloom.specs.declared.filter.Filter as FilterEnum
-use Rattle.bloom.specs.declared.filter.Filter.TheVariants as FilterCase
 use Rattle.bloom.specs.Choice.{choice_of}
 use Rattle.filters.specs.Filter.{probes, places, places_of, bit, raise, raise_all, raise_keys, filter_size, filter, all_raised, filter_may}
 use Rattle.filters.specs.FilterBlock.{Filtering, unfiltered, bits_per_key, filter_for}
 use Rattle.filters.specs.FilterCount.{filter_bytes_of}
-use Rattle.filters.proofs.FilterLaws.{keys_length, size_eighths, empty_filter}
-
--- ---- the size of n keys at b bits each
-
-module _ (n b : ℕ) where
-  -- by eights of keys, and the keys left
-  size_eights : filter_size (n * b) ≡ max 8 (n / 8 * b + (n % 8 * b + 7) / 8)
-  size_eights =
-      let e : n * b ≡ 8 * (n / 8 * b) + n % 8 * b =
-      let d : n ≡ 8 * (n / 8) + n % 8 = omega arith in
-      ap (λ (m : ℕ). m * b) d ∙ add-mul (8 * (n / 8)) (n % 8) b ∙ ap (λ (m : ℕ). m + n % 8 * b) (mul_assoc 8 (n / 8) b) in
-      omega (arith, size_eighths (n * b))
-
-  pub size_none : b ≡ 0 → 8 ≡ min (filter_size (n * b)) (2 ^ 63)
-  size_none e = let z : n * b ≡ 0 = ap (λ (m : ℕ). n * m) e ∙ mul-zero n in omega (arith, size_eighths (n * b))
-
-  pub size_huge : (b ≡ 0 → ⊥) → (2 ^ 63 - 1) / b < n / 8 → 2 ^ 63 ≡ min (filter_size (n * b)) (2 ^ 63)
-  size_huge p h = let l : 2 ^ 63 - 1 < n / 8 * b = (div-lt_iff_lt-mul {k = b} {x = 2 ^ 63 - 1} {y = n / 8} (omega arith)).0 h in omega (arith, size_eights)
-
-  -- both products are small enough, and give the size
-  pub record Sized : Type 0 where
-    pub eights : n / 8 * b < 2 ^ 63
-    pub left : n % 8 * b ≤ 7 * b
-    pub whole : filter_size (n * b) ≡ max 8 (n / 8 * b + (n % 8 * b + 7) / 8)
-
-  pub sized : (b ≡ 0 → ⊥) → n / 8 ≤ (2 ^ 63 - 1) / b → Sized
-  sized p h =
-      let l : n / 8 * b ≤ 2 ^ 63 - 1 = (le-div_iff_mul-le {k = b} {x = n / 8} {y = 2 ^ 63 - 1} (omega arith)).0 h in
-      let m : n % 8 ≤ 7 = omega arith in
-      record { eights = omega arith; left = mul-le-mul_right b m; whole = size_eights }
+use Rattle.filters.proofs.FilterLaws.{keys_length, empty_filter}
 
 -- ---- the filter and its bytes, by the choice
 
-module _ (ch : FilterEnum.Filter) where
-  choice_none : ch ≡ FilterCase.None → choice_of ch ≡ unfiltered
+module _ (ch : Option ℕ) where
+  choice_none : ch ≡ None → choice_of ch ≡ unfiltered
   unfolding choice_of
   choice_none e = rw e
 
-  choice_bits : {b : ℕ} → ch ≡ FilterCase.Bits b → choice_of ch ≡ bits_per_key b
+  choice_bits : {b : ℕ} → ch ≡ Some b → choice_of ch ≡ bits_per_key b
   unfolding choice_of
   choice_bits e = rw e
 
-  pub no_bytes_none : (n : ℕ) → ch ≡ FilterCase.None → filter_bytes_of (choice_of ch) n ≡ 0
+  pub no_bytes_none : (n : ℕ) → ch ≡ None → filter_bytes_of (choice_of ch) n ≡ 0
   unfolding filter_bytes_of
   no_bytes_none n e = rw (choice_none e)
 
-  pub bytes_some : (n : ℕ) {b : ℕ} → ch ≡ FilterCase.Bits b → (n ≡ 0 → ⊥) → filter_bytes_of (choice_of ch) n ≡ filter_size (n * b) + 1
+  pub bytes_some : (n : ℕ) {b : ℕ} → ch ≡ Some b → (n ≡ 0 → ⊥) → filter_bytes_of (choice_of ch) n ≡ filter_size (n * b) + 1
   unfolding filter_bytes_of
   bytes_some n e p = let q : n ≡ suc (n - 1) = omega arith in rw (choice_bits e, q)
 
-  pub no_filter_none : (hs : List ℕ) → ch ≡ FilterCase.None → filter_for (choice_of ch) hs ≡ []
+  pub no_filter_none : (hs : List ℕ) → ch ≡ None → filter_for (choice_of ch) hs ≡ []
   unfolding filter_for
   no_filter_none hs e = rw (choice_none e)
 
-  pub filter_chosen : (hs : List ℕ) {b : ℕ} → ch ≡ FilterCase.Bits b → (length hs ≡ 0 → ⊥) → filter_for (choice_of ch) hs ≡ filter b hs
+  pub filter_chosen : (hs : List ℕ) {b : ℕ} → ch ≡ Some b → (length hs ≡ 0 → ⊥) → filter_for (choice_of ch) hs ≡ filter b hs
   unfolding filter_for
   filter_chosen [] e p = absurd (p refl)
   filter_chosen (x ∷ hs) e p = rw (choice_bits e)
@@ -90,10 +58,6 @@ place_is m n x e l =
     (λ h. let q : n ≡ m = omega arith in ap (λ (y : ℕ). x % y) q)
     (λ h. let q : n ≡ 2 ^ 32 = omega arith in
     ap (λ (y : ℕ). x % y) q ∙ mod-eq_of_lt l ∙ sym (mod-eq_of_lt (omega arith)))
-
--- so a probe's place lies in the filter
-pub place_in : (s : List ℕ) (n x : ℕ) → 0 < length s → n ≡ min (8 * length s) (2 ^ 32) → x < 2 ^ 32 → x % n < 8 * length s
-place_in s n x p e l = rw (place_is (8 * length s) n x e l) (mod-lt x (omega arith))
 
 -- the places from probe i on
 module _ (k i m x d : ℕ) where
@@ -148,36 +112,43 @@ module _ (k m : ℕ) (s hs : List ℕ) (i : ℕ) where
 
 -- ---- the filter, written into a part of a run
 
--- a part of n bytes
-pub mid_length : (d : List ℕ) (at n : ℕ) → at + n ≤ length d → length (take (at + n - at) (drop at d)) ≡ n
-mid_length d at n h = ap length (part_between d at n) ∙ part_length d at n h
+-- a part between two places
+pub mid_length : (d : List ℕ) (at last : ℕ) → at ≤ last → last ≤ length d → length (take (last - at) (drop at d)) ≡ last - at
+mid_length d at last h l = simp (length-take, length-drop) (omega arith)
 
 -- a filter is its bits and then k
 filter_parts : (bits size k : ℕ) (hs ys : List ℕ) → size ≡ filter_size (length hs * bits) → k ≡ probes bits → ys ≡ raise_keys k (8 * size) (replicate size 0) hs → filter bits hs ≡ ys ++ (k ∷ [])
 unfolding filter
 filter_parts bits size k hs ys f p q = rw (← f, ← p, ← q)
 
-pub wrote_filter : (d : List ℕ) (at size bits k : ℕ) (hs ys : List ℕ)
-    → size ≡ min (filter_size (length hs * bits)) (2 ^ 63) → length d < 2 ^ 63 → at ≤ length d → size < length d - at → k ≡ probes bits
-    → ys ≡ raise_keys k (8 * length (take (at + size - at) (drop at d))) (replicate (length (take (at + size - at) (drop at d))) 0) hs
-    → Wrote d at (filter bits hs) (At (at + size + 1)) (set (take at d ++ (ys ++ drop (at + size - at) (drop at d))) (at + size) k)
-wrote_filter d at size bits k hs ys n l h room p e =
+pub wrote_filter : (d : List ℕ) (at size last end bits k : ℕ) (hs ys : List ℕ)
+    → size ≡ min (filter_size (length hs * bits)) (2 ^ 63) → length d < 2 ^ 63 → last ≡ at + size → end ≡ last + 1 → end ≤ length d → k ≡ probes bits
+    → ys ≡ raise_keys k (8 * length (take (last - at) (drop at d))) (replicate (length (take (last - at) (drop at d))) 0) hs
+    → Wrote d at (filter bits hs) (Ok end) (set (take at d ++ (ys ++ drop (last - at) (drop at d))) last k)
+wrote_filter d at size last end bits k hs ys n l at_last at_end room p e =
+    let m : last - at ≡ size = omega arith in
     let f : size ≡ filter_size (length hs * bits) = omega arith in
-    let q : ys ≡ raise_keys k (8 * size) (replicate size 0) hs = rw (mid_length d at size (omega arith)) at e in
+    let q : ys ≡ raise_keys k (8 * size) (replicate size 0) hs = rw (mid_length d at last (omega arith) (omega arith), m) at e in
     let w : length ys ≡ size = ap length q ∙ keys_length k (8 * size) (replicate size 0) hs ∙ length-replicate size 0 in
-    rw (filter_parts bits size k hs ys f p q, mid_put d at ys (at + size - at) (omega arith) (omega arith))
-    (wrote_then d at ys (k ∷ []) (at + size) (At (at + size)) (put d at ys) (At (at + size + 1)) (set (put d at ys) (at + size) k) (omega arith)
-    (record { said = ap At (omega arith) ∙ sym (answer_room d at ys (omega arith)); left = refl }) refl
-    (wrote_sets (put d at ys) (at + size) (k ∷ []) (at + size + 1) (set (put d at ys) (at + size) k) (omega (arith, put_length d at ys)) (omega arith) refl))
+    rw (filter_parts bits size k hs ys f p q, mid_put d at ys (last - at) (omega arith) (omega arith))
+    (wrote_then d at ys (k ∷ []) last (Ok last) (put d at ys) (Ok end) (set (put d at ys) last k) (omega arith)
+    (record { said = ap Ok (omega arith) ∙ sym (answer_room d at ys (omega arith)); left = refl }) refl
+    (wrote_sets (put d at ys) last (k ∷ []) end (set (put d at ys) last k) (omega (arith, put_length d at ys)) (omega arith) refl))
 
--- ---- whether a filter lets a hash through
+-- ---- whether a filter lets a hash through, by its bits and k
 
-module _ (f : List ℕ) (h : ℕ) where
-  pub may_many : 30 < get_or f (length f - 1) 0 → true ≡ filter_may f h
+module _ (f bits : List ℕ) (k h : ℕ) (parts : f ≡ bits ++ (k ∷ [])) where
+  -- its last byte is k, and its bits stand before
+  long : length f - 1 ≡ length bits
+  long = rw parts (omega (arith, length-append bits (k ∷ [])))
+
+  pub may_many : ltb 30 k ≡ true → true ≡ filter_may f h
   unfolding filter_may
-  may_many l = sym (simp (lt-ltb 30 (get_or f (length f - 1) 0) l, or-true))
+  may_many t = sym (rw long (rw (parts, get_or-append_seam, t) (simp or-true)))
 
-  pub may_bits : (k : ℕ) → 1 < length f → k ≡ get_or f (length f - 1) 0 → k ≤ 30
-      → all_raised (take (length f - 1) f) (places_of k (8 * length (take (length f - 1) f)) h) ≡ filter_may f h
+  pub may_bits : eqb (length bits) 0 ≡ false → ltb 30 k ≡ false → all_raised bits (places_of k (8 * length bits) h) ≡ filter_may f h
   unfolding filter_may
-  may_bits k l e m = rw (length-take-le (length f - 1) f (omega arith), ← e, lt-leb (length f) 1 l, le-ltb 30 k m)
+  may_bits p t =
+      let l : 1 < length f = omega (arith, eqb-false (length bits) 0 p, long) in
+      let few = lt-leb (length f) 1 l in
+      sym (rw (long, few) (rw (parts, get_or-append_seam, take-append_seam, t) refl))

@@ -7,7 +7,7 @@ use mathlib.Core.Bool.{Bool, true, false, cond}
 use native.Mathlib.Omega.{arith}
 use lib.Dec.{leb}
 use lib.ListN.{length, take}
-use Rattle.codec.proofs.Prelude.{test, true_is, apart}
+use Rattle.codec.proofs.Prelude.{test, true_is}
 use Rattle.table.specs.Checked.{pass, refuse, ◌>>=◌, ask}
 use Rattle.table.specs.Options.{Options, Addition, addition_fits}
 use Rattle.table.specs.Build.{Building, key_of, begin, close_before, add, finish, above, accept, accept_all}
@@ -17,15 +17,17 @@ use Rattle.table.proofs.AcceptLaws.{took, accept_more}
 use Rattle.table.proofs.SufficeLaws.{runs_suffice_lem}
 use Rattle.bloom.specs.Choice.{choice_of}
 use Rattle.table_write.specs.Writes.{ClosedOut, ClosedIndex, MoreFilters, EnteredRuns}
-use Rattle.builder.specs.declared.table_builder.Answer.{Answer}
-use Rattle.builder.specs.declared.table_builder.Answer.TheVariants as AnswerCase
+use Rattle.std.specs.Prelude.{Ok, Err}
+use Rattle.table_block.specs.declared.refusal.Refusal as Why
+use Rattle.table_block.specs.declared.refusal.Refusal.TheVariants.{Order, Full}
+use Rattle.table_block.specs.Refusals.{number, refusal}
+use Rattle.table_block.proofs.RefusalLaws.{err_is, ok_not_err, err_not_ok}
 use Rattle.builder.specs.declared.table_builder.Lengths.{Lengths}
 use Rattle.builder.specs.declared.table_builder.Builder.{Builder}
 use Rattle.builder.specs.declared.table_builder.Plan.{Plan}
-use Rattle.builder.specs.declared.table_builder.Added.{Added}
 use Rattle.builder.specs.State.{lengths_of, seven, sane, Stands}
-use Rattle.builder.specs.Steps.{ends_at, Whole, Ready, early_of, mid_of, next_of, entered_state, decide_of, DecidedIs, cut_of, sep_of}
-use Rattle.builder.specs.Answers.{answer_of, Later, Traced, AddedIs}
+use Rattle.builder.specs.Steps.{ends_at, Whole, Ready, early_of, mid_of, next_of, entered_state, decide_of, DecidedIs, cut_of, sep_of, unless}
+use Rattle.builder.specs.Answers.{answer_of, Added, Later, Traced, AddedIs}
 use Rattle.builder.proofs.CloseLaws.{Counted, ClosedRuns, closed_kept, more_until, ends_closed, index_key, index_key_closed, closed_all}
 use Rattle.builder.proofs.DecideLaws.{early_sane, mid_is}
 use Rattle.builder.proofs.EnterLaws.{enter_fits, entered_all}
@@ -43,16 +45,11 @@ pub record PutRuns (s : Builder) (key word value : List ℕ) (r r' : Runs) : Typ
   pub index_restarts : r'.index_restarts ≡ mid.index_restarts
   pub offsets : r'.offsets ≡ mid.offsets
 
--- the answer of a number: 0, or a refusal's
-unfoldable pub numbered : ℕ → Answer
-numbered zero = AnswerCase.Ok
-numbered (suc n) = AnswerCase.Refused (suc n)
-
 -- an addition within the limits, to a sane state, answers x and leaves the runs so
 pub record PutIs (s : Builder) (l : Lengths) (key word value : List ℕ) (r r' : Runs) (x : Added) : Type 0 where
   pub number : ℕ
   pub kind : (number ≡ 0) ⊎ ((number ≡ 4) ⊎ (number ≡ 5))
-  pub answer : x.answer ≡ numbered number
+  pub answer : x.answer ≡ unless number
   pub decided : Whole (next_of s key (length value)) → number ≡ decide_of s l key (length value)
   pub kept : (number ≡ 0 → ⊥) → (x.state ≡ s) × (r' ≡ r)
   pub state : number ≡ 0 → x.state ≡ next_of s key (length value)
@@ -63,43 +60,50 @@ cut_ends : (s : Builder) (key : List ℕ) {t : Bool} → t ≡ cut_of s → t �
 cut_ends s key e u = ap (λ (x : Builder). x.written) (sym (mid_is s key (sym u ∙ e))) ∙ ends_closed s (sep_of s key)
 
 module _ (s : Builder) (l : Lengths) (key word value : List ℕ) (r : Runs) where
-  numbered_not : (n : ℕ) → (n ≡ 0 → ⊥) → AnswerCase.Refused n ≡ numbered n
-  unfolding numbered
-  numbered_not zero h = absurd (h refl)
-  numbered_not (suc n) h = refl
-
-  pub put_refused : {p : Plan} → DecidedIs s l key (length value) p → (p.answer ≡ 0 → ⊥)
-      → PutIs s l key word value r r (record { answer = AnswerCase.Refused p.answer; state = s })
-  put_refused {p} h n =
+  pub put_refused : {e : Why.Refusal} → DecidedIs s l key (length value) (Err e) → PutIs s l key word value r r (record { answer = Err e; state = s })
+  put_refused {e} h =
       record {
-        number = p.answer;
-        kind = h.kind;
-        answer = numbered_not p.answer n;
+        number = number e;
+        kind = numbers (h.kind e refl);
+        answer = says (h.kind e refl);
         decided = h.answer;
         kept = λ z. (refl, refl);
-        state = λ z. absurd (n z);
-        wrote = λ z. absurd (n z);
+        state = λ z. absurd (none (h.kind e refl) z);
+        wrote = λ z. absurd (none (h.kind e refl) z);
       }
+    where
+      numbers : (e ≡ Order) ⊎ (e ≡ Full) → (number e ≡ 0) ⊎ ((number e ≡ 4) ⊎ (number e ≡ 5))
+      numbers (inl q) = inr (inl (ap number q))
+      numbers (inr q) = inr (inr (ap number q))
 
-  pub put_done : {p : Plan} → DecidedIs s l key (length value) p → p.answer ≡ 0 → {out₁ index₁ filters₁ index_restarts₁ offsets₁ out₂ restarts₂ hashes₂ : List ℕ}
+      says : (e ≡ Order) ⊎ (e ≡ Full) → Err e ≡ unless (number e)
+      says (inl q) = rw q
+      says (inr q) = rw q
+
+      none : (e ≡ Order) ⊎ (e ≡ Full) → number e ≡ 0 → ⊥
+      none (inl q) z = let v = ap number q in absurd (omega arith)
+      none (inr q) z = let v = ap number q in absurd (omega arith)
+
+  pub put_done : {p : Plan} → DecidedIs s l key (length value) (Ok p) → {out₁ index₁ filters₁ index_restarts₁ offsets₁ out₂ restarts₂ hashes₂ : List ℕ}
       → ClosedOut p.cut s.pending s.written r.out out₁ r.restarts
       → ClosedIndex p.cut s.pending s.written s.indexed (take p.next.indexed.len p.next.indexed.last) r.index index₁ r.index_restarts index_restarts₁
-      → MoreFilters p.cut (choice_of s.options.filter) (p.next.written / 2048) s.waiting s.filtered s.made r.filters filters₁ r.offsets offsets₁ r.hashes
+      → MoreFilters p.cut (choice_of s.options.filter) (p.next.written / 2048) s.filtered s.made r.filters filters₁ r.offsets offsets₁ (take s.waiting r.hashes)
       → EnteredRuns p.pending p.next.written p.waiting key word value out₁ out₂ r.restarts restarts₂ r.hashes hashes₂
-      → PutIs s l key word value r (seven out₂ index₁ filters₁ restarts₂ index_restarts₁ offsets₁ hashes₂) (record { answer = AnswerCase.Ok; state = p.next })
-  put_done {p} h z {out₁} {index₁} {filters₁} {index_restarts₁} {offsets₁} o i f e =
-      let x : index_key p.next ≡ index_key (mid_of s key) = ap index_key (h.next z) ∙ (unfold index_key next_of entered_state in refl) in
-      let w : p.next.written ≡ (mid_of s key).written = ap (λ (n : Builder). n.written) (h.next z) ∙ (unfold next_of entered_state in refl) in
+      → PutIs s l key word value r (seven out₂ index₁ filters₁ restarts₂ index_restarts₁ offsets₁ hashes₂) (record { answer = Ok tt; state = p.next })
+  put_done {p} h {out₁} {index₁} {filters₁} {index_restarts₁} {offsets₁} o i f e =
+      let next = h.next p refl in
+      let x : index_key p.next ≡ index_key (mid_of s key) = ap index_key next ∙ (unfold index_key next_of entered_state in refl) in
+      let w : p.next.written ≡ (mid_of s key).written = ap (λ (n : Builder). n.written) next ∙ (unfold next_of entered_state in refl) in
       let c : ClosedRuns p.cut s (index_key p.next) r (seven out₁ index₁ filters₁ r.restarts index_restarts₁ offsets₁ r.hashes) =
-      record { out = o; index = (unfold index_key in i); filters = more_until (λ u. w ∙ cut_ends s key (h.cut z) u) f; restarts = refl; hashes = refl } in
+      record { out = o; index = (unfold index_key in i); filters = more_until (λ u. w ∙ cut_ends s key (h.cut p refl) u) f; restarts = refl; hashes = refl } in
       record {
-        number = p.answer;
-        kind = h.kind;
-        answer = (unfold numbered in rw z);
+        number = 0;
+        kind = inl refl;
+        answer = refl;
         decided = h.answer;
-        kept = λ n. absurd (n z);
-        state = h.next;
-        wrote = λ q. record { mid = _; cut = rw (x, h.cut z) at c; entered = rw (h.pending z, w, h.waiting z) at e; index = refl; filters = refl; index_restarts = refl; offsets = refl };
+        kept = λ n. absurd (n refl);
+        state = λ q. next;
+        wrote = λ q. record { mid = _; cut = rw (x, h.cut p refl) at c; entered = rw (h.pending p refl, w, h.waiting p refl) at e; index = refl; filters = refl; index_restarts = refl; offsets = refl };
       }
 
 -- ---- the trace
@@ -183,41 +187,49 @@ accept_short : (o : Options) (room : ℕ) (b : Building) (a : Addition) → addi
 unfolding accept ask ◌>>=◌
 accept_short o room b a f = rw f
 
-accept_number : (o : Options) (room : ℕ) (b : Building) (a : Addition) → addition_fits a ≡ true → numbered (refusal_of (accept o room b a)) ≡ answer_of (accept o room b a)
-unfolding accept ask ◌>>=◌ refusal_of numbered answer_of
+accept_number : (o : Options) (room : ℕ) (b : Building) (a : Addition) → addition_fits a ≡ true → unless (refusal_of (accept o room b a)) ≡ answer_of (accept o room b a)
+unfolding accept ask ◌>>=◌ refusal_of answer_of
 accept_number o room b a f =
     test (above a b.open_block)
     (λ u. test (leb (length (finish o (add o b a))) room) (λ v. rw (f, u, v)) (λ v. rw (f, u, v)))
     (λ u. rw (f, u))
 
+pub unless_err : (n : ℕ) {e : Why.Refusal} → unless n ≡ Err e → (n ≡ 0 → ⊥) × (e ≡ refusal n)
+unless_err zero q = ok_not_err q
+unless_err (suc n) q = (λ z. absurd (omega arith), sym (err_is q))
+
+pub unless_ok : (n : ℕ) {u : Unit {0}} → unless n ≡ Ok u → n ≡ 0
+unless_ok zero q = refl
+unless_ok (suc n) q = err_not_ok q
+
 module _ (s : Builder) (r : Runs) (a : Addition) where
-  pub add_refused : {t : Bool} {n : ℕ} → t ≡ addition_fits a → n ≡ early_of s (lengths_of r) t → (n ≡ 0 → ⊥) → AddedIs s r r a (record { answer = AnswerCase.Refused n; state = s })
-  add_refused {t} {n} p q z =
-      let w : n ≡ early_of s (lengths_of r) (addition_fits a) = q ∙ ap (early_of s (lengths_of r)) p in
+  pub add_refused : {t : Bool} {e : Why.Refusal} → t ≡ addition_fits a → unless (early_of s (lengths_of r) t) ≡ Err e → AddedIs s r r a (record { answer = Err e; state = s })
+  add_refused {t} {e} p q =
+      let u = unless_err (early_of s (lengths_of r) t) q in
+      let w : early_of s (lengths_of r) t ≡ early_of s (lengths_of r) (addition_fits a) = ap (early_of s (lengths_of r)) p in
       record {
-        early = λ x. ap AnswerCase.Refused w;
-        later = λ x. absurd (z (w ∙ x));
+        early = λ x. ap Err (u.1 ∙ ap refusal w);
+        later = λ x. absurd (u.0 (w ∙ x));
         refused = λ m x. (refl, refl);
-        traced = λ o more b e st.
+        traced = λ o more b ac st.
             test (addition_fits a)
-            (λ f. absurd (z (w ∙ early_sane s (lengths_of r) (addition_fits a) st.going (trace_sane o more b s r e st) ∙ rw f)))
+            (λ f. absurd (u.0 (w ∙ early_sane s (lengths_of r) (addition_fits a) st.going (trace_sane o more b s r ac st) ∙ rw f)))
             (λ f.
             let x = accept_short o (room_of (length r.out)) b a f in
-            let y : n ≡ 3 = w ∙ early_sane s (lengths_of r) (addition_fits a) st.going (trace_sane o more b s r e st) ∙ rw f in
+            let y : early_of s (lengths_of r) t ≡ 3 = w ∙ early_sane s (lengths_of r) (addition_fits a) st.going (trace_sane o more b s r ac st) ∙ rw f in
             record {
-              answer = ap AnswerCase.Refused y ∙ sym (ap answer_of x ∙ (unfold answer_of in refl));
+              answer = ap Err (u.1 ∙ ap refusal y) ∙ sym (ap answer_of x ∙ (unfold answer_of in refl));
               stands = λ c k. absurd (refuse_pass (sym x ∙ k));
               runs = λ c k. absurd (refuse_pass (sym x ∙ k));
             });
       }
 
-  module _ {t : Bool} {n : ℕ} (p : t ≡ addition_fits a) (q : n ≡ early_of s (lengths_of r) t) (z : n ≡ 0) where
+  module _ {t : Bool} (p : t ≡ addition_fits a) (z : early_of s (lengths_of r) t ≡ 0) where
     pub add_ready : (sane s (lengths_of r) ≡ true) × (addition_fits a ≡ true)
-    add_ready = let w = early_zero s (lengths_of r) t (sym q ∙ z) in (w.0, sym p ∙ w.1)
+    add_ready = let w = early_zero s (lengths_of r) t z in (w.0, sym p ∙ w.1)
 
     module _ {r' : Runs} {x : Added} (g : PutIs s (lengths_of r) (key_of a) a.word a.value r r' x) where
-      no_refusal : g.number ≡ 0 → x.answer ≡ AnswerCase.Ok
-      unfolding numbered
+      no_refusal : g.number ≡ 0 → x.answer ≡ Ok tt
       no_refusal e = g.answer ∙ rw e
 
       later_is : Later x.answer
@@ -225,8 +237,8 @@ module _ (s : Builder) (r : Runs) (a : Addition) where
         where
           go : (g.number ≡ 0) ⊎ ((g.number ≡ 4) ⊎ (g.number ≡ 5)) → Later x.answer
           go (inl e) = rw (no_refusal e) tt
-          go (inr (inl e)) = rw (g.answer ∙ ap numbered e) (unfold numbered in inl refl)
-          go (inr (inr e)) = rw (g.answer ∙ ap numbered e) (unfold numbered in inr refl)
+          go (inr (inl e)) = rw (g.answer ∙ ap unless e) (inl refl)
+          go (inr (inr e)) = rw (g.answer ∙ ap unless e) (inr refl)
 
       module _ (o : Options) (more : List Addition) (b : Building) (e : accept_all o (room_of (length r.out)) begin more ≡ pass b) (st : Stands o b s r) where
         number_is : g.number ≡ refusal_of (accept o (room_of (length r.out)) b a)
@@ -239,7 +251,7 @@ module _ (s : Builder) (r : Runs) (a : Addition) where
         traced_is : Traced o b r r' a x
         traced_is =
             record {
-              answer = g.answer ∙ ap numbered number_is ∙ accept_number o (room_of (length r.out)) b a add_ready.1;
+              answer = g.answer ∙ ap unless number_is ∙ accept_number o (room_of (length r.out)) b a add_ready.1;
               stands = λ c k. rw (g.state (number_zero c k)) (after_stands o more b s r e st a add_ready.1 c k r' (g.wrote (number_zero c k)));
               runs = λ c k. after_runs o more b s r e st a add_ready.1 c k r' (g.wrote (number_zero c k));
             }
@@ -247,9 +259,9 @@ module _ (s : Builder) (r : Runs) (a : Addition) where
       pub add_put : AddedIs s r r' a x
       add_put =
           record {
-            early = λ y. absurd (y (ap (early_of s (lengths_of r)) (sym p) ∙ sym q ∙ z));
+            early = λ y. absurd (y (ap (early_of s (lengths_of r)) (sym p) ∙ z));
             later = λ y. later_is;
-            refused = λ m y. g.kept (λ k. let v = sym (no_refusal k) ∙ y in apart cc);
+            refused = λ m y. g.kept (λ k. ok_not_err (sym (no_refusal k) ∙ y));
             traced = traced_is;
           }
 

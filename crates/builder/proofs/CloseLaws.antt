@@ -15,11 +15,12 @@ use Rattle.codec.proofs.PutLaws.{put_put, put_start, put_length}
 use Rattle.checksum.proofs.TrailerLaws.{trailer_length}
 use Rattle.codec.proofs.VarintLaws.{handle_long}
 use Rattle.block_builder.specs.declared.block_builder.BlockBuilder.{BlockBuilder}
-use Rattle.block_builder.specs.declared.block_builder.Added.{Added}
+use Rattle.std.specs.Prelude.{Result, Ok}
+use Rattle.codec.specs.declared.put.NoRoom.{NoRoom}
 use Rattle.blocks.specs.Block.{Pair, packed, restarts_of}
 use Rattle.blocks.specs.Count.{count_size}
 use Rattle.block_builder.specs.Builder as Blocks
-use Rattle.block_builder.specs.Builder.{new_builder, builder_after, builder_with, AddedIs, Counting}
+use Rattle.block_builder.specs.Builder.{new_builder, builder_after, builder_with, fit_answer, AddedIs, Counting}
 use Rattle.block_builder.proofs.BuilderLaws.{stands_more, stands_finish, added_kept}
 use Rattle.filters.specs.FilterBlock.{Filtering, Filters, no_filters, filters_up_to, made_bytes, starts}
 use Rattle.filter_block.specs.declared.filter_block.Made.{Made}
@@ -137,7 +138,7 @@ module _ {o : Options} {b : Building} {s : Builder} (h : Counted o b s) where
 pub record ClosedRuns (closing : Bool) (s : Builder) (key : List ℕ) (r r' : Runs) : Type 0 where
   pub out : ClosedOut closing s.pending s.written r.out r'.out r.restarts
   pub index : ClosedIndex closing s.pending s.written s.indexed key r.index r'.index r.index_restarts r'.index_restarts
-  pub filters : MoreFilters closing (choice_of s.options.filter) (ends_at s / 2048) s.waiting s.filtered s.made r.filters r'.filters r.offsets r'.offsets r.hashes
+  pub filters : MoreFilters closing (choice_of s.options.filter) (ends_at s / 2048) s.filtered s.made r.filters r'.filters r.offsets r'.offsets (take s.waiting r.hashes)
   pub restarts : r'.restarts ≡ r.restarts
   pub hashes : r'.hashes ≡ r.hashes
 
@@ -151,8 +152,8 @@ closed_kept g e =
     λ i. record { out = x₀ i; index = x₁.0 i; filters = x₂.0 i; restarts = x₃ i; index_restarts = x₁.1 i; offsets = x₂.1 i; hashes = x₄ i }
 
 -- the same filters, if it is closed at the end of another state
-pub more_until : {more : Bool} {c : Filtering} {at n waiting bytes made : ℕ} {f f' q q' hs : List ℕ} → (more ≡ true → at ≡ n) → MoreFilters more c (at / 2048) waiting bytes made f f' q q' hs
-    → MoreFilters more c (n / 2048) waiting bytes made f f' q q' hs
+pub more_until : {more : Bool} {c : Filtering} {at n bytes made : ℕ} {f f' q q' hs : List ℕ} → (more ≡ true → at ≡ n) → MoreFilters more c (at / 2048) bytes made f f' q q' hs
+    → MoreFilters more c (n / 2048) bytes made f f' q q' hs
 more_until e g = record { said = g.said; done = λ t. rw (e t) at (g.done t); kept = g.kept }
 
 pub ends_closed : (s : Builder) (key : List ℕ) → (closed_state s key).written ≡ ends_at s
@@ -184,7 +185,7 @@ made_room c gs bytes made f q x y z =
     rw (le-leb (bytes + length (made_bytes c gs)) (length f) x, le-leb (made + length (starts c bytes gs)) (length q) y, le-leb (bytes + length (made_bytes c gs)) (2 ^ 32 - 1) z)
 
 -- filters made behind those that stand in the runs
-pub made_overlay : (c : Filtering) (ms gs : List (List ℕ)) {bytes made : ℕ} {e : Made} {f f' q q' : List ℕ} (f₀ q₀ : List ℕ) → MadeFilters c gs bytes made e f f' q q'
+pub made_overlay : (c : Filtering) (ms gs : List (List ℕ)) {bytes made : ℕ} {e : Result Made NoRoom} {f f' q q' : List ℕ} (f₀ q₀ : List ℕ) → MadeFilters c gs bytes made e f f' q q'
     → bytes ≡ length (made_bytes c ms) → made ≡ length ms → f ≡ overlay (made_bytes c ms) f₀ → q ≡ overlay (starts c 0 ms) q₀
     → length (made_bytes c (ms ++ gs)) ≤ length f₀ → length (starts c 0 (ms ++ gs)) ≤ length q₀ → length (made_bytes c (ms ++ gs)) ≤ 2 ^ 32 - 1
     → (f' ≡ overlay (made_bytes c (ms ++ gs)) f₀) × (q' ≡ overlay (starts c 0 (ms ++ gs)) q₀)
@@ -281,20 +282,20 @@ module _ {o : Options} {b : Building} {s : Builder} (h : Counted o b s) (m : Sma
       ∙ ap₂ (λ (at n : ℕ). index_pairs o 0 b.closed ++ (record { key = key; value = handle_bytes (record { offset = at; size = n }) } ∷ []))
       (zero-add (length (written o b.closed)) ∙ sym (written_is h)) (sym (open_size_lem h))
 
-  pub closed_index : (x y : List ℕ) {x' y' : List ℕ} {a : Added} → AddedIs s.indexed 0 x x' y y' key handle a
+  pub closed_index : (x y : List ℕ) {x' y' : List ℕ} {a : Result (Unit {0}) NoRoom} {b' : BlockBuilder} → AddedIs s.indexed 0 x x' y y' key handle a b'
       → x ≡ overlay (between o b).index x → y ≡ overlay (between o b).index_restarts y
       → length (between o d).index ≤ length x → length (between o d).index_restarts ≤ length y → length (between o b).index < 2 ^ 32
       → (x' ≡ overlay (between o d).index x) × (y' ≡ overlay (between o d).index_restarts y)
   unfolding between held entries_of restarts_in
-  closed_index x y {x'} {y'} {a} g p q lx ly u =
+  closed_index x y {x'} {y'} {a} {b'} g p q lx ly u =
       let st = index_stands h x y p q in
       let after = lens closed_counted in
       let z : builder_after s.indexed key (length handle) ≡ (closed_state s key).indexed = unfold closed_state close_in in ap (builder_after s.indexed key) (handle_length s.written (open_size s)) in
       let zb = ap (λ (c : BlockBuilder). c.bytes) z in
       let zr = ap (λ (c : BlockBuilder). c.restarts) z in
-      let fits : a.fits ≡ true =
-      g.fits ∙ fits_addable s.indexed 0 x y key handle (index_countable s m key k (length handle) (handle_long (record { offset = s.written; size = open_size s }))) (omega (arith, after.index)) (omega (arith, after.index_restarts))
-      (omega (arith, (lens h).index)) in
+      let fits : a ≡ Ok tt =
+      g.fits ∙ ap fit_answer (fits_addable s.indexed 0 x y key handle (index_countable s m key k (length handle) (handle_long (record { offset = s.written; size = open_size s }))) (omega (arith, after.index)) (omega (arith, after.index_restarts))
+      (omega (arith, (lens h).index))) in
       let more = stands_more st pair g fits in
       let kept = added_kept g in
       let r = entry_overlay x y more kept.0.after kept.1.after in
@@ -324,7 +325,7 @@ module _ {o : Options} {b : Building} {s : Builder} (h : Counted o b s) (m : Sma
   unfolding between held
   closed_hashes hs p = waits_close (λ (w : List ℕ). hs ≡ overlay w hs) p (overlay_none hs)
 
-  pub closed_filters : (f q hs : List ℕ) {f' q' : List ℕ} {e : Made}
+  pub closed_filters : (f q hs : List ℕ) {f' q' : List ℕ} {e : Result Made NoRoom}
       → MadeFilters (choice_of s.options.filter) (groups_up_to s.made (ends_at s / 2048) (take s.waiting hs)) s.filtered s.made e f f' q q'
       → hs ≡ overlay (between o b).hashes hs → f ≡ overlay (between o b).filters f → q ≡ overlay (between o b).offsets q
       → length (between o d).filters ≤ length f → length (between o d).offsets ≤ length q → length (between o d).filters ≤ 2 ^ 32 - 1

@@ -1,7 +1,7 @@
 -- What is decided of an addition before anything is written.
 use Prim.Native.Nat.{ℕ, ◌+◌, ◌-◌, ◌≤◌}
 use mathlib.Core.Path.{◌≡◌, refl, sym, ap, ◌∙◌}
-use mathlib.Core.Logic.{◌⊎◌, inl, inr, ⊎_elim}
+use mathlib.Core.Logic.{◌⊎◌, inl, inr}
 use mathlib.Core.List.{List}
 use mathlib.Core.Bool.{Bool, true, false, ◌&&◌, cond}
 use native.Mathlib.Omega.{arith}
@@ -10,7 +10,11 @@ use lib.ListN.{length, length-append, length-take}
 use borrow.Author.Tests.{leb-true, ltb-true, eq-eqb, ne_eqb}
 use Rattle.codec.proofs.Prelude.{test, both}
 use Rattle.keys.specs.Order.{bytes_below, user_of, last_tag, user_sep, separator, below}
-use Rattle.block_builder.specs.declared.block_builder.BlockBuilder.{BlockBuilder}
+use Rattle.std.specs.Prelude.{Ok, Err}
+use Rattle.table_block.specs.declared.refusal.Refusal as Why
+use Rattle.table_block.specs.declared.refusal.Refusal.TheVariants.{Order, Full}
+use Rattle.table_block.specs.Refusals.{number}
+use Rattle.table_block.proofs.RefusalLaws.{ok_is, err_is, ok_not_err, err_not_ok}
 use Rattle.block_builder.specs.Builder.{new_builder}
 use Rattle.table.specs.Options.{options_fit}
 use Rattle.table.specs.Runs.{room_of}
@@ -164,17 +168,23 @@ module _ (s : Builder) (l : Lengths) where
 
 -- ---- all of it
 
-module _ (s : Builder) (l : Lengths) (key : List ℕ) (v : ℕ) (b : BlockBuilder) (n : Builder) where
-  decided_not : {a : ℕ} → (a ≡ 4) ⊎ (a ≡ 5) → (Whole (next_of s key v) → a ≡ decide_of s l key v) → DecidedIs s l key v (record { answer = a; cut = false; pending = b; waiting = 0; next = n })
-  decided_not {a} k e =
-      let some : a ≡ 0 → ⊥ = λ z. ⊎_elim (λ x. omega arith) (λ x. omega arith) k in
-      record { kind = inr k; answer = e; cut = λ z. absurd (some z); pending = λ z. absurd (some z); waiting = λ z. absurd (some z); next = λ z. absurd (some z) }
+module _ (s : Builder) (l : Lengths) (key : List ℕ) (v : ℕ) where
+  decided_not : {e : Why.Refusal} → (e ≡ Order) ⊎ (e ≡ Full) → (Whole (next_of s key v) → number e ≡ decide_of s l key v) → DecidedIs s l key v (Err e)
+  decided_not {e} k d =
+      record {
+        kind = λ x q. rw (err_is q) at k;
+        answer = d;
+        cut = λ p q. err_not_ok q;
+        pending = λ p q. err_not_ok q;
+        waiting = λ p q. err_not_ok q;
+        next = λ p q. err_not_ok q;
+      }
 
-  pub decided_large : {t : Bool} → t ≡ small s → t ≡ false → DecidedIs s l key v (record { answer = 5; cut = false; pending = b; waiting = 0; next = n })
+  pub decided_large : {t : Bool} → t ≡ small s → t ≡ false → DecidedIs s l key v (Err Full)
   unfolding decide_of
   decided_large e f = decided_not (inr refl) (λ w. rw (sym e ∙ f))
 
-  pub decided_low : {t u : Bool} → t ≡ small s → t ≡ true → u ≡ above_last s key → u ≡ false → DecidedIs s l key v (record { answer = 4; cut = false; pending = b; waiting = 0; next = n })
+  pub decided_low : {t u : Bool} → t ≡ small s → t ≡ true → u ≡ above_last s key → u ≡ false → DecidedIs s l key v (Err Order)
   unfolding decide_of
   decided_low e f g h = decided_not (inl refl) (λ w. rw (sym e ∙ f, sym g ∙ h))
 
@@ -187,10 +197,18 @@ module _ (s : Builder) (l : Lengths) (key : List ℕ) (v : ℕ) (b : BlockBuilde
     fits_is : Whole (next_of s key v) → fits_of (next_of s key v) l ≡ r
     fits_is w = ap (λ (x : Builder). fits_of x l) (sym next_is) ∙ sym (k (rw next_is w))
 
-    pub decided_full : r ≡ false → DecidedIs s l key v (record { answer = 5; cut = false; pending = b; waiting = 0; next = n })
+    pub decided_full : r ≡ false → DecidedIs s l key v (Err Full)
     unfolding decide_of
     decided_full j = decided_not (inr refl) (λ w. rw (sym e ∙ f, sym g ∙ h, fits_is w ∙ j))
 
-    pub decided_ok : {c : Bool} → c ≡ cut_of s → r ≡ true → DecidedIs s l key v (record { answer = 0; cut = c; pending = m'.pending; waiting = m'.waiting; next = n' })
+    pub decided_ok : {c : Bool} → c ≡ cut_of s → r ≡ true → DecidedIs s l key v (Ok (record { cut = c; pending = m'.pending; waiting = m'.waiting; next = n' }))
     unfolding decide_of
-    decided_ok c j = record { kind = inl refl; cut = λ z. c; answer = λ w. rw (sym e ∙ f, sym g ∙ h, fits_is w ∙ j); pending = λ z. ap (λ (x : Builder). x.pending) p; waiting = λ z. ap (λ (x : Builder). x.waiting) p; next = λ z. next_is }
+    decided_ok c j =
+        record {
+          kind = λ x y. ok_not_err y;
+          answer = λ w. rw (sym e ∙ f, sym g ∙ h, fits_is w ∙ j);
+          cut = λ x y. rw (← ok_is y) c;
+          pending = λ x y. rw (← ok_is y) (ap (λ (z : Builder). z.pending) p);
+          waiting = λ x y. rw (← ok_is y) (ap (λ (z : Builder). z.waiting) p);
+          next = λ x y. rw (← ok_is y) next_is;
+        }

@@ -1,12 +1,13 @@
 -- What is decided of a finish.
 use Prim.Native.Nat.{ℕ}
-use mathlib.Core.Path.{◌≡◌, refl, sym, ap, ◌∙◌}
-use mathlib.Core.Logic.{inl, inr}
+use mathlib.Core.Path.{◌≡◌, sym, ap, ◌∙◌}
+use Rattle.std.specs.Prelude.{Ok, Err}
+use Rattle.table_block.specs.declared.refusal.Refusal.TheVariants.{Full}
+use Rattle.table_block.proofs.RefusalLaws.{ok_is, err_is, ok_not_err, err_not_ok}
 use mathlib.Core.Bool.{Bool, true, false, ◌&&◌, cond}
 use lib.Dec.{leb}
 use borrow.Author.Tests.{leb-true}
 use Rattle.codec.proofs.Prelude.{both}
-use native.Mathlib.Omega.{arith}
 use Rattle.bloom.specs.Choice.{choice_of}
 use Rattle.builder.specs.declared.table_builder.Builder.{Builder}
 use Rattle.builder.specs.declared.table_builder.FilterSizes.{FilterSizes}
@@ -16,20 +17,20 @@ use Rattle.builder.specs.declared.table_builder.Lengths.{Lengths}
 use Rattle.builder.specs.State.{options_of, counts_in}
 use Rattle.builder.specs.Steps.{small, Small, Whole, filter_count_in, filters_in, last_state, last_filters, endable, EndingIs}
 
-module _ (s : Builder) (l : Lengths) (x : Builder) (y : FilterSizes) where
-  ending_not : (Whole s → ◌≡◌ {A = ℕ} 5 (cond (small s && endable s l) 0 5)) → EndingIs s l (record { answer = 5; size = 0; last = x; sizes = y })
+module _ (s : Builder) (l : Lengths) where
+  ending_not : (Whole s → ◌≡◌ {A = ℕ} 5 (cond (small s && endable s l) 0 5)) → EndingIs s l (Err Full)
   ending_not e =
       record {
-        kind = inr refl;
+        kind = λ x q. sym (err_is q);
         answer = e;
-        size = λ z. absurd (omega arith);
-        small = λ z. absurd (omega arith);
-        last = λ z. absurd (omega arith);
-        sizes = λ z. absurd (omega arith);
-        within = λ z. absurd (omega arith);
+        size = λ p q. err_not_ok q;
+        small = λ p q. err_not_ok q;
+        last = λ p q. err_not_ok q;
+        sizes = λ p q. err_not_ok q;
+        within = λ p q. err_not_ok q;
       }
 
-  pub ending_large : {t : Bool} → t ≡ small s → t ≡ false → EndingIs s l (record { answer = 5; size = 0; last = x; sizes = y })
+  pub ending_large : {t : Bool} → t ≡ small s → t ≡ false → EndingIs s l (Err Full)
   ending_large e f = ending_not (λ w. rw (sym e ∙ f))
 
   module _ (k : Small s) {t r : Bool} (e : t ≡ small s) (g : t ≡ true) (size : ℕ) (last : Builder) (f : FilterSizes) (es : Whole s → size ≡ finished_size (options_of s.options) (counts_in s)) (el : last ≡ last_state s)
@@ -51,20 +52,20 @@ module _ (s : Builder) (l : Lengths) (x : Builder) (y : FilterSizes) where
         let d = ap (λ (z : Builder). z.indexed.bytes) el in
         sym (er ∙ rw (a, b, c, d))
 
-    pub ending_full : r ≡ false → EndingIs s l (record { answer = 5; size = 0; last = x; sizes = y })
+    pub ending_full : r ≡ false → EndingIs s l (Err Full)
     ending_full n = ending_not (λ w. rw (small_yes, test_is w, n))
 
-    pub ending_ok : r ≡ true → EndingIs s l (record { answer = 0; size = size; last = last; sizes = f })
+    pub ending_ok : r ≡ true → EndingIs s l (Ok (record { size = size; last = last; sizes = f }))
     ending_ok n =
         let p = both (leb size l.out) _ (sym er ∙ n) in
         let q = both (leb f.bytes l.filters) _ p.1 in
         let v = both (leb f.made l.offsets) _ q.1 in
         record {
-          kind = inl refl;
+          kind = λ x y. ok_not_err y;
           answer = λ w. rw (small_yes, test_is w, n);
-          size = λ z w. es w;
-          small = λ z. k;
-          last = λ z. el;
-          sizes = λ z. sizes_is;
-          within = λ z. (leb-true _ _ q.0, (leb-true _ _ v.0, leb-true _ _ v.1));
+          size = λ x y w. rw (← ok_is y) (es w);
+          small = λ x y. k;
+          last = λ x y. rw (← ok_is y) el;
+          sizes = λ x y. rw (← ok_is y) sizes_is;
+          within = λ x y. rw (← ok_is y) (leb-true _ _ q.0, (leb-true _ _ v.0, leb-true _ _ v.1));
         }

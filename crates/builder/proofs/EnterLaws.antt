@@ -11,11 +11,12 @@ use Rattle.codec.specs.Bytes.{part}
 use Rattle.codec.specs.Put.{put}
 use Rattle.codec.proofs.PutLaws.{put_length}
 use Rattle.block_builder.specs.declared.block_builder.BlockBuilder.{BlockBuilder}
-use Rattle.block_builder.specs.declared.block_builder.Added.{Added}
+use Rattle.std.specs.Prelude.{Result, Ok}
+use Rattle.codec.specs.declared.put.NoRoom.{NoRoom}
 use Rattle.blocks.specs.Block.{Pair, packed, restarts_of}
 use Rattle.blocks.specs.Count.{BlockCount, count_entry}
 use Rattle.block_builder.specs.Builder as Blocks
-use Rattle.block_builder.specs.Builder.{builder_after, builder_with, AddedIs}
+use Rattle.block_builder.specs.Builder.{builder_after, builder_with, fit_answer, AddedIs}
 use Rattle.block_builder.proofs.BuilderLaws.{stands_more, added_kept, added_is}
 use Rattle.block_builder.proofs.BuilderCode.{next_bytes_lem, next_restarts}
 use Rattle.filters.specs.Filter.{hash}
@@ -120,8 +121,8 @@ module _ {o : Options} {c : Building} {s : Builder} (h : Counted o c s) (a : Add
     abbrev before : Each (between o c) r r₁
     before = each p
 
-    module _ {out' restarts' : List ℕ} {x : Added} (g : AddedIs s.pending s.written r₁.out out' r₁.restarts restarts' (key_of a) a.value x) where
-      entry_fits_lem : x.fits ≡ true
+    module _ {out' restarts' : List ℕ} {x : Result (Unit {0}) NoRoom} {x' : BlockBuilder} (g : AddedIs s.pending s.written r₁.out out' r₁.restarts restarts' (key_of a) a.value x x') where
+      entry_fits_lem : x ≡ Ok tt
       unfolding entered_state
       entry_fits_lem =
           let u = enter_fits room f in
@@ -130,16 +131,16 @@ module _ {o : Options} {c : Building} {s : Builder} (h : Counted o c s) (a : Add
           let lo = overlay_long (between o c).out r₁.out r.out before.out (omega (arith, u.out, z.out)) in
           let lr = overlay_long (between o c).restarts r₁.restarts r.restarts before.restarts (omega (arith, u.restarts, z.restarts)) in
           g.fits
-          ∙ fits_addable s.pending s.written r₁.out r₁.restarts (key_of a) a.value
+          ∙ ap fit_answer (fits_addable s.pending s.written r₁.out r₁.restarts (key_of a) a.value
           (countable_small s.pending (key_of a) (length a.value) y.key (omega (arith, y.value)) (omega (arith, y.bytes)) (omega (arith, y.restarts)) y.since y.least y.most)
           (omega (arith, l'.out, f.out, z.out))
           (omega (arith, l'.restarts, f.restarts, z.restarts))
-          (omega (arith, y.bytes))
+          (omega (arith, y.bytes)))
 
-      after_stands : Blocks.Stands o.interval (ps ++ (pair ∷ [])) x.block s.written out' restarts'
+      after_stands : Blocks.Stands o.interval (ps ++ (pair ∷ [])) x' s.written out' restarts'
       after_stands = stands_more (open_stands h r.out r.restarts before.out before.restarts) pair g entry_fits_lem
 
-      grows : (s.pending.bytes ≤ x.block.bytes) × (s.pending.restarts ≤ x.block.restarts)
+      grows : (s.pending.bytes ≤ x'.bytes) × (s.pending.restarts ≤ x'.restarts)
       unfolding builder_after builder_with
       grows =
           let e = (added_is g true entry_fits_lem).0 in (
@@ -162,9 +163,9 @@ module _ {o : Options} {c : Building} {s : Builder} (h : Counted o c s) (a : Add
           let lw = length-append w e in
           let front : take (length w) out' ≡ w = take_less (length w) (s.written + s.pending.bytes) out' r₁.out (omega arith) kept.before ∙ (overlay_first w e r₁.out r.out before.out).0 in
           let there : part out' (length w) (length e') ≡ e' = rw (wi, bb) at after_stands.entries in
-          let gap : s.written + x.block.bytes ≡ length (w ++ e) + (length e' - length e) = omega arith in
-          let gap' : s.written + x.block.bytes ≡ length w + length e' = omega arith in
-          let back₁ : drop (s.written + x.block.bytes) r₁.out ≡ drop (s.written + x.block.bytes) r.out = rw gap (overlay_behind (w ++ e) r₁.out r.out before.out (length e' - length e)) in
+          let gap : s.written + x'.bytes ≡ length (w ++ e) + (length e' - length e) = omega arith in
+          let gap' : s.written + x'.bytes ≡ length w + length e' = omega arith in
+          let back₁ : drop (s.written + x'.bytes) r₁.out ≡ drop (s.written + x'.bytes) r.out = rw gap (overlay_behind (w ++ e) r₁.out r.out before.out (length e' - length e)) in
           let back : drop (length w + length e') out' ≡ drop (length w + length e') r.out = rw gap' at (kept.after ∙ back₁) in
           overlay_at w e' out' r.out front there back ∙ ap (λ (q : List Pair). overlay (w ++ packed i i [] q) r.out) (sym pairs_with)
 
@@ -178,8 +179,8 @@ module _ {o : Options} {c : Building} {s : Builder} (h : Counted o c s) (a : Add
           let ri = (counted_long (counting h)).1 in
           let br = (counted_long after_stands.counting).1 in
           let gr = grows.1 in
-          let gap : x.block.restarts ≡ length e + (length e' - length e) = omega arith in
-          let back₁ : drop x.block.restarts r₁.restarts ≡ drop x.block.restarts r.restarts = rw gap (overlay_behind e r₁.restarts r.restarts before.restarts (length e' - length e)) in
+          let gap : x'.restarts ≡ length e + (length e' - length e) = omega arith in
+          let back₁ : drop x'.restarts r₁.restarts ≡ drop x'.restarts r.restarts = rw gap (overlay_behind e r₁.restarts r.restarts before.restarts (length e' - length e)) in
           let back : drop (length e') restarts' ≡ drop (length e') r.restarts = rw br at (kept.after ∙ back₁) in
           overlay_of e' restarts' r.restarts (rw br at after_stands.marks) back ∙ ap (λ (q : List Pair). overlay (restarts_of i i [] 0 q) r.restarts) (sym pairs_with)
 

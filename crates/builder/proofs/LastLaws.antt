@@ -1,15 +1,13 @@
 -- Finish, of a state and runs that stand for a table.
 use Prim.Native.Nat.{ℕ, ◌+◌, ◌-◌, ◌/◌, ◌≤◌}
 use mathlib.Core.Path.{◌≡◌, refl, sym, ap, ap₂, ◌∙◌}
-use mathlib.Core.Logic.{◌⊎◌, inl, inr}
 use mathlib.Core.List.{List, [], ◌∷◌, ◌++◌, map, append-nil}
 use mathlib.Core.Bool.{Bool, true, not, false≢true}
 use native.Mathlib.Omega.{arith}
 use lib.Dec.{eqb}
-use lib.ListN.{length, take}
+use lib.ListN.{length, take, length-take}
 use Rattle.codec.proofs.Lists.{no_length}
 use borrow.Author.Tests.{le-leb, eq-eqb, ne_eqb}
-use Rattle.codec.proofs.Prelude.{apart}
 use Rattle.blocks.specs.Block.{packed, restarts_of}
 use Rattle.blocks.specs.Count.{BlockCount, count_of}
 use Rattle.block_builder.specs.Builder.{count_in}
@@ -29,17 +27,21 @@ use Rattle.table.specs.Counts.{finished_size}
 use Rattle.table.proofs.StepLaws as Step
 use Rattle.table.proofs.CountsLaws.{size_finished_lem, no_open, last_filters_lem}
 use Rattle.table.proofs.SufficeLaws.{Rooms}
-use Rattle.table_write.specs.Writes.{ClosedOut, ClosedIndex, MoreFilters, filter_block, meta_block, EndFits, EndPut, EndWritten}
+use Rattle.table_write.specs.Writes.{ClosedOut, ClosedIndex, MoreFilters, meta_block, EndFits, EndPut, EndWritten}
 use Rattle.builder.specs.declared.table_builder.Builder.{Builder}
 use Rattle.builder.specs.declared.table_builder.FilterSizes.{FilterSizes}
 use Rattle.builder.specs.declared.table_builder.Ending.{Ending}
-use Rattle.builder.specs.declared.table_builder.Outcome.TheVariants as OutcomeCase
+use Rattle.std.specs.Prelude.{Result, Ok, Err}
+use Rattle.table_block.specs.declared.refusal.Refusal as Why
+use Rattle.table_block.specs.Refusals.{number}
+use Rattle.codec.proofs.Prelude.{apart}
+use Rattle.table_block.proofs.RefusalLaws.{err_is, ok_not_err, err_not_ok}
 use Rattle.builder.specs.State.{options_of, counts_in, lengths_of, seven, sane, Stands}
-use Rattle.builder.specs.Steps.{Small, filter_count_in, filters_in, last_of, ends_at, closed_state, last_state, early_of, last_filters, endable, EndingIs}
+use Rattle.builder.specs.Steps.{Small, filter_count_in, filters_in, last_of, ends_at, closed_state, last_state, early_of, last_filters, endable, said, unless, EndingIs}
 use Rattle.builder.specs.Answers.{over_state, FinishedIs}
 use Rattle.builder.proofs.SizeLaws as Size
 use Rattle.builder.proofs.DecideLaws.{sane_is, last_short, early_sane}
-use Rattle.builder.proofs.AddLaws.{early_zero}
+use Rattle.builder.proofs.AddLaws.{early_zero, unless_err}
 use Rattle.table.proofs.OverlayLaws.{overlay_none, overlay_front, Each, each, all_seven}
 use Rattle.filter_block.proofs.MakeLaws.{groups_some}
 use Rattle.builder.proofs.CloseLaws.{Counted, ClosedRuns, closed_kept, more_until, ends_closed, index_key, index_key_closed, lens, counting, index_stands, filters_is, filters_are, written_is, options_are, made_overlay, closed_counted, waits_close, closed_all}
@@ -56,8 +58,8 @@ pub record LastRuns (s : Builder) (r r' : Runs) : Type 0 where
 pub record EndRuns (s last : Builder) (f : FilterSizes) (r r' : Runs) : Type 0 where
   pub mid : Runs
   pub closed : LastRuns s r mid
-  pub filters : MoreFilters (not (eqb last.waiting 0)) (choice_of s.options.filter) f.made last.waiting last.filtered last.made mid.filters r'.filters mid.offsets r'.offsets mid.hashes
-  pub out : EndPut s.options.interval (choice_of s.options.filter) last.written f.bytes f.made last.indexed r'.filters r'.offsets mid.index mid.index_restarts mid.out r'.out
+  pub filters : MoreFilters (not (eqb last.waiting 0)) (choice_of s.options.filter) f.made last.filtered last.made mid.filters r'.filters mid.offsets r'.offsets (take last.waiting mid.hashes)
+  pub out : EndPut s.options.interval (choice_of s.options.filter) last.written last.indexed (take f.bytes r'.filters) (take f.made r'.offsets) mid.index mid.index_restarts mid.out r'.out
   pub index : r'.index ≡ mid.index
   pub index_restarts : r'.index_restarts ≡ mid.index_restarts
   pub restarts : r'.restarts ≡ r.restarts
@@ -171,7 +173,7 @@ module _ (o : Options) (more : List Addition) (b : Building) (s : Builder) (r : 
 
     -- the last filter
     module _ (f : FilterSizes) (ef : filter_count_in f ≡ last_filters s) (f' q' : List ℕ)
-        (k : MoreFilters (not (eqb mid.waiting 0)) (choice_of s.options.filter) f.made mid.waiting mid.filtered mid.made r₁.filters f' r₁.offsets q' r₁.hashes) where
+        (k : MoreFilters (not (eqb mid.waiting 0)) (choice_of s.options.filter) f.made mid.filtered mid.made r₁.filters f' r₁.offsets q' (take mid.waiting r₁.hashes)) where
       abbrev ch : Filtering
       ch = o.filtering
 
@@ -207,7 +209,7 @@ module _ (o : Options) (more : List Addition) (b : Building) (s : Builder) (r : 
               made_overlay ch fs.made (fs.waiting ∷ []) r.filters r.offsets y n.0 n.1 mids.filters mids.offsets (omega (arith, rooms.filters)) (omega (arith, rooms.offsets)) (omega (arith, rooms.limit))
 
       -- the table
-      module _ (out' : List ℕ) (k₂ : EndPut s.options.interval (choice_of s.options.filter) mid.written f.bytes f.made mid.indexed f' q' r₁.index r₁.index_restarts r₁.out out') where
+      module _ (out' : List ℕ) (k₂ : EndPut s.options.interval (choice_of s.options.filter) mid.written mid.indexed (take f.bytes f') (take f.made q') r₁.index r₁.index_restarts r₁.out out') where
         abbrev cs : List Build.Chunk
         cs = c.closed
 
@@ -222,8 +224,8 @@ module _ (o : Options) (more : List Addition) (b : Building) (s : Builder) (r : 
         unfolding filter_count_in filter_count_of
         f_made = ap (λ (x : FilterCount). x.made) sizes_are ∙ sym (starts_length ch 0 (last_filter fs).made)
 
-        filter_is : filter_block f.bytes f.made f' q' ≡ filter_bytes o cs
-        unfolding filter_block filter_bytes filter_block_bytes
+        filter_is : filter_block_of (take f.bytes f') (take f.made q') ≡ filter_bytes o cs
+        unfolding filter_bytes filter_block_bytes
         filter_is =
             let x : take f.bytes f' ≡ made_bytes ch (last_filter fs).made = rw f_bytes (overlay_front (made_bytes ch (last_filter fs).made) f' r.filters last_runs.0) in
             let y : take f.made q' ≡ starts ch 0 (last_filter fs).made = rw f_made (overlay_front (starts ch 0 (last_filter fs).made) q' r.offsets last_runs.1) in
@@ -232,7 +234,7 @@ module _ (o : Options) (more : List Addition) (b : Building) (s : Builder) (r : 
         interval : s.options.interval ≡ o.interval
         interval = (options_are s o t.options).0
 
-        meta_is : meta_block s.options.interval (choice_of s.options.filter) mid.written (length (filter_block f.bytes f.made f' q')) ≡ meta_bytes o cs
+        meta_is : meta_block s.options.interval (choice_of s.options.filter) (record { offset = mid.written; size = length (filter_block_of (take f.bytes f') (take f.made q')) }) ≡ meta_bytes o cs
         unfolding meta_block meta_bytes meta_pair
         meta_is = rw (filter_is, written_is last_counted, interval, filtering)
 
@@ -244,14 +246,14 @@ module _ (o : Options) (more : List Addition) (b : Building) (s : Builder) (r : 
             let u = t ++ framed mb in
             u ++ framed ib ++ footer_bytes (record { offset = length t; size = length mb }) (record { offset = length u; size = length ib })
 
-        whole_is : whole (filter_block f.bytes f.made f' q') (meta_block s.options.interval (choice_of s.options.filter) mid.written (length (filter_block f.bytes f.made f' q'))) ≡ Build.finish o b
+        whole_is : whole (filter_block_of (take f.bytes f') (take f.made q')) (meta_block s.options.interval (choice_of s.options.filter) (record { offset = mid.written; size = length (filter_block_of (take f.bytes f') (take f.made q')) })) ≡ Build.finish o b
         unfolding Build.finish table until_footer until_index until_meta meta_handle index_handle
         whole_is = ap₂ whole filter_is meta_is
 
         pub end_out : out' ≡ overlay (Build.finish o b) r.out
         unfolding index_bytes
         end_out =
-            let l : length (whole (filter_block f.bytes f.made f' q') (meta_block s.options.interval (choice_of s.options.filter) mid.written (length (filter_block f.bytes f.made f' q')))) ≤ length r.out = rw whole_is (omega (arith, fin_out, rooms.out)) in
+            let l : length (whole (filter_block_of (take f.bytes f') (take f.made q')) (meta_block s.options.interval (choice_of s.options.filter) (record { offset = mid.written; size = length (filter_block_of (take f.bytes f') (take f.made q')) }))) ≤ length r.out = rw whole_is (omega (arith, fin_out, rooms.out)) in
             k₂.wrote is_small.least is_small.most (index_interval o) (index_pairs o 0 cs) (index_stands last_counted r.index r.index_restarts mids.index mids.index_restarts) (written o cs) r.out (rw out_written at mids.out)
             (sym (written_is last_counted)) l
             ∙ ap (λ (x : List ℕ). overlay x r.out) whole_is
@@ -302,64 +304,69 @@ module _ (o : Options) (more : List Addition) (b : Building) (s : Builder) (r : 
         le-leb mid.indexed.bytes (length r.index) (omega (arith, x.index, mid_fits.index, rooms.index)),
       )
 
-  pub end_decides : {p : Ending} → EndingIs s (lengths_of r) p → (p.answer ≡ 0) × (p.size ≡ length (Build.finish o b))
-  end_decides {p} g =
-      let w = h.whole in
-      let z : p.answer ≡ 0 = g.answer w ∙ rw (trace_small o more b s r e t, end_endable) in
-      (z, g.size z w ∙ end_size_lem)
+  pub end_decides : {x : Result Ending Why.Refusal} → EndingIs s (lengths_of r) x → said x ≡ 0
+  end_decides g = g.answer h.whole ∙ rw (trace_small o more b s r e t, end_endable)
+
+  pub end_sized : {p : Ending} → EndingIs s (lengths_of r) (Ok p) → p.size ≡ length (Build.finish o b)
+  end_sized {p} g = g.size p refl h.whole ∙ end_size_lem
 
 -- ---- finish
 
-module _ (s : Builder) (r : Runs) {n : ℕ} (q : n ≡ early_of s (lengths_of r) true) where
-  early_none : (o : Options) (more : List Addition) (b : Building) → accept_all o (room_of (length r.out)) begin more ≡ pass b → Stands o b s r → n ≡ 0
-  early_none o more b e t = q ∙ early_sane s (lengths_of r) true t.going (trace_sane o more b s r e t)
+module _ (s : Builder) (r : Runs) where
+  early_none : (o : Options) (more : List Addition) (b : Building) → accept_all o (room_of (length r.out)) begin more ≡ pass b → Stands o b s r → early_of s (lengths_of r) true ≡ 0
+  early_none o more b e t = early_sane s (lengths_of r) true t.going (trace_sane o more b s r e t)
 
-  pub finish_refused : (n ≡ 0 → ⊥) → FinishedIs s r r (record { answer = OutcomeCase.Refused n; state = s })
-  finish_refused z =
+  pub finish_refused : {e : Why.Refusal} → unless (early_of s (lengths_of r) true) ≡ Err e → FinishedIs s r r (record { answer = Err e; state = s })
+  finish_refused {e} q =
+      let u = unless_err (early_of s (lengths_of r) true) q in
       record {
-        early = λ x. ap OutcomeCase.Refused q;
-        later = λ x. absurd (z (q ∙ x));
+        early = λ x. ap Err u.1;
+        later = λ x. absurd (u.0 x);
         refused = λ m x. (refl, refl);
-        over = λ m x. apart cc;
-        answer = λ o more b e t. absurd (z (early_none o more b e t));
-        runs = λ o more b e t. absurd (z (early_none o more b e t));
+        over = λ m x. err_not_ok x;
+        answer = λ o more b ac t. absurd (u.0 (early_none o more b ac t));
+        runs = λ o more b ac t. absurd (u.0 (early_none o more b ac t));
       }
 
-  pub finish_is_sane : n ≡ 0 → sane s (lengths_of r) ≡ true
-  finish_is_sane z = (early_zero s (lengths_of r) true (sym q ∙ z)).0
+  module _ (z : early_of s (lengths_of r) true ≡ 0) where
+    pub finish_is_sane : sane s (lengths_of r) ≡ true
+    finish_is_sane = (early_zero s (lengths_of r) true z).0
 
-  module _ (z : n ≡ 0) {p : Ending} (g : EndingIs s (lengths_of r) p) where
-    pub finish_full : (p.answer ≡ 0 → ⊥) → FinishedIs s r r (record { answer = OutcomeCase.Refused p.answer; state = s })
-    finish_full k =
+    pub finish_full : {e : Why.Refusal} → EndingIs s (lengths_of r) (Err e) → FinishedIs s r r (record { answer = Err e; state = s })
+    finish_full {e} g =
+        let five : number e ≡ 5 = ap number (g.kind e refl) in
         record {
-          early = λ x. absurd (x (sym q ∙ z));
-          later = λ x m y. let v : m ≡ p.answer = cc in v ∙ five g.kind;
+          early = λ x. absurd (x z);
+          later = λ x m y. sym (err_is y) ∙ g.kind e refl;
           refused = λ m x. (refl, refl);
-          over = λ m x. apart cc;
-          answer = λ o more b e t. absurd (k (end_decides o more b s r e t g).0);
-          runs = λ o more b e t. absurd (k (end_decides o more b s r e t g).0);
+          over = λ m x. err_not_ok x;
+          answer = λ o more b ac t. let v = end_decides o more b s r ac t g in absurd (omega arith);
+          runs = λ o more b ac t. let v = end_decides o more b s r ac t g in absurd (omega arith);
         }
-      where
-        five : (p.answer ≡ 0) ⊎ (p.answer ≡ 5) → p.answer ≡ 5
-        five (inl x) = absurd (k x)
-        five (inr x) = x
 
-    module _ (k : p.answer ≡ 0) where
-      finish_fits : EndFits p.last.written p.sizes.bytes p.sizes.made p.last.indexed (length r.filters) (length r.offsets) (length r.index)
+    module _ {p : Ending} (g : EndingIs s (lengths_of r) (Ok p)) where
+      -- the end's numbers are far below 64 bits, whatever the filters' runs hold
+      end_numbers : (fs os ix : List ℕ) → length ix ≡ length r.index → EndFits p.last.written (length (take p.sizes.bytes fs)) (length (take p.sizes.made os)) p.last.indexed (length ix)
       unfolding lengths_of last_filters
-      finish_fits =
-          let x = sane_is s (lengths_of r) (finish_is_sane z) in
-          let w = g.within k in
-          let ef = g.sizes k ∙ ap (λ (d : Builder). count_last (choice_of s.options.filter) (filter_count_in (filters_in d))) (sym (g.last k)) in
-          let v = Size.last_sizes s (g.small k) (last_short s x.len) p.last p.sizes (g.last k) ef in
-          record { written = v.2; filter_bytes = v.0; filter_count = v.1; index_size = v.3; in_filters = w.0; in_offsets = w.1.0; in_index = w.1.1 }
+      end_numbers fs os ix l =
+          let x = sane_is s (lengths_of r) finish_is_sane in
+          let w = g.within p refl in
+          let ef = g.sizes p refl ∙ ap (λ (d : Builder). count_last (choice_of s.options.filter) (filter_count_in (filters_in d))) (sym (g.last p refl)) in
+          let v = Size.last_sizes s (g.small p refl) (last_short s x.len) p.last p.sizes (g.last p refl) ef in
+          record {
+            written = v.2;
+            filter_bytes = omega (arith, v.0, length-take p.sizes.bytes fs);
+            filter_count = omega (arith, v.1, length-take p.sizes.made os);
+            index_size = v.3;
+            in_index = omega (arith, w.1.1);
+          }
 
       module _ {closing : Bool} (c : closing ≡ not (eqb s.pending.restarts 0)) {out₁ index₁ filters₁ index_restarts₁ offsets₁ filters₂ offsets₂ out₂ : List ℕ}
           (co : ClosedOut closing s.pending s.written r.out out₁ r.restarts)
           (ci : ClosedIndex closing s.pending s.written s.indexed (take p.last.indexed.len p.last.indexed.last) r.index index₁ r.index_restarts index_restarts₁)
-          (cf : MoreFilters closing (choice_of s.options.filter) (p.last.written / 2048) s.waiting s.filtered s.made r.filters filters₁ r.offsets offsets₁ r.hashes)
-          (lf : MoreFilters (not (eqb p.last.waiting 0)) (choice_of s.options.filter) p.sizes.made p.last.waiting p.last.filtered p.last.made filters₁ filters₂ offsets₁ offsets₂ r.hashes)
-          (ew : EndWritten s.options.interval (choice_of s.options.filter) p.last.written p.sizes.bytes p.sizes.made p.last.indexed filters₂ offsets₂ index₁ index_restarts₁ out₁ out₂)
+          (cf : MoreFilters closing (choice_of s.options.filter) (p.last.written / 2048) s.filtered s.made r.filters filters₁ r.offsets offsets₁ (take s.waiting r.hashes))
+          (lf : MoreFilters (not (eqb p.last.waiting 0)) (choice_of s.options.filter) p.sizes.made p.last.filtered p.last.made filters₁ filters₂ offsets₁ offsets₂ (take p.last.waiting r.hashes))
+          (ew : EndWritten s.options.interval (choice_of s.options.filter) p.last.written p.last.indexed (take p.sizes.bytes filters₂) (take p.sizes.made offsets₂) index₁ index_restarts₁ out₁ out₂)
           (lens : (length filters₂ ≡ length r.filters) × ((length offsets₂ ≡ length r.offsets) × (length index₁ ≡ length r.index))) where
         abbrev r' : Runs
         r' = seven out₂ index₁ filters₂ r.restarts index_restarts₁ offsets₂ r.hashes
@@ -368,31 +375,31 @@ module _ (s : Builder) (r : Runs) {n : ℕ} (q : n ≡ early_of s (lengths_of r)
         ended =
             let d : (closing ≡ true → p.last.written ≡ ends_at s) → ClosedRuns closing s (index_key p.last) r (seven out₁ index₁ filters₁ r.restarts index_restarts₁ offsets₁ r.hashes) =
             λ e. (unfold index_key in record { out = co; index = ci; filters = more_until e cf; restarts = refl; hashes = refl }) in
-            let fits : EndFits p.last.written p.sizes.bytes p.sizes.made p.last.indexed (length filters₂) (length offsets₂) (length index₁) = rw (lens.0, lens.1.0, lens.1.1) finish_fits in
+            let fits : EndFits p.last.written (length (take p.sizes.bytes filters₂)) (length (take p.sizes.made offsets₂)) p.last.indexed (length index₁) = end_numbers filters₂ offsets₂ index₁ lens.1.1 in
             record {
               mid = _;
               closed =
                   record {
                     some = λ n.
-                        let e = ap (λ (x : Builder). x.written) (g.last k ∙ sym (Size.last_some s n)) ∙ ends_closed s (last_of s) in
-                        rw (g.last k, c ∙ ap not (ne_eqb s.pending.restarts 0 n)) at (d (λ u. e));
+                        let e = ap (λ (x : Builder). x.written) (g.last p refl ∙ sym (Size.last_some s n)) ∙ ends_closed s (last_of s) in
+                        rw (g.last p refl, c ∙ ap not (ne_eqb s.pending.restarts 0 n)) at (d (λ u. e));
                     none = λ n. let u = c ∙ ap not (eq-eqb s.pending.restarts 0 n) in closed_kept (d (λ v. absurd (false≢true (sym u ∙ v)))) u;
                   };
-              filters = rw (g.last k) at lf;
-              out = rw (g.last k) at (ew.done fits);
+              filters = rw (g.last p refl) at lf;
+              out = rw (g.last p refl) at (ew.done fits);
               index = refl;
               index_restarts = refl;
               restarts = refl;
               hashes = refl;
             }
 
-        pub finish_done : {x : Builder} → x ≡ over_state s → FinishedIs s r r' (record { answer = OutcomeCase.Size p.size; state = x })
+        pub finish_done : {x : Builder} → x ≡ over_state s → FinishedIs s r r' (record { answer = Ok p.size; state = x })
         finish_done {x} ex =
             record {
-              early = λ y. absurd (y (sym q ∙ z));
-              later = λ y m u. apart cc;
-              refused = λ m u. apart cc;
+              early = λ y. absurd (y z);
+              later = λ y m u. ok_not_err u;
+              refused = λ m u. ok_not_err u;
               over = λ m u. ex;
-              answer = λ o more b e t. ap OutcomeCase.Size (end_decides o more b s r e t g).1;
-              runs = λ o more b e t. end_runs o more b s r e t p.sizes (g.sizes k) r' ended;
+              answer = λ o more b e t. ap Ok (end_sized o more b s r e t g);
+              runs = λ o more b e t. end_runs o more b s r e t p.sizes (g.sizes p refl) r' ended;
             }

@@ -12,7 +12,8 @@ use Rattle.codec.specs.Varint.{varint_bytes}
 use Rattle.codec.proofs.Prelude.{test, split, both}
 use Rattle.codec.proofs.VarintLaws.{varint_bytes_length}
 use Rattle.block_builder.specs.declared.block_builder.BlockBuilder.{BlockBuilder}
-use Rattle.block_builder.specs.declared.block_builder.Counted.{Counted}
+use Rattle.std.specs.Prelude.{Result}
+use Rattle.codec.specs.declared.put.NoRoom.{NoRoom}
 use Rattle.blocks.specs.Count.{no_entries, varint_size, count_entry, count_size}
 use Rattle.block_builder.specs.Builder.{count_in, new_builder, builder_with, builder_after, countable, CountedIs}
 use Rattle.block_builder.specs.Plan.{size_with}
@@ -37,7 +38,7 @@ use Rattle.builder.specs.Steps.{small, Small, filter_count_in, filter_sizes, fil
 -- ---- one entry more
 
 -- an entry that can be counted is
-pub counted_is : {b : BlockBuilder} {key : List ℕ} {v : ℕ} {r : Counted} → CountedIs b key v r → countable b key v ≡ true → r.block ≡ builder_after b key v
+pub counted_is : {b : BlockBuilder} {key : List ℕ} {v : ℕ} {r : Result (Unit {0}) NoRoom} {b' : BlockBuilder} → CountedIs b key v r b' → countable b key v ≡ true → b' ≡ builder_after b key v
 counted_is h e = h.block ∙ rw e
 
 -- a builder after an entry holds the counts after it
@@ -108,14 +109,14 @@ module _ (s : Builder) (h : Small s) where
         countable_small s.indexed key v k (omega arith) (omega (arith, h.index_bytes)) (omega (arith, h.index_restarts))
         (omega (arith, h.index_since, h.index_interval)) (omega (arith, h.least, h.index_interval)) (omega (arith, h.most, h.index_interval))
 
-    pub closed_is : {c : Close} {r : Counted} {e : BlockBuilder} → c ≡ close_in s → CountedIs s.indexed key c.handle r → e ≡ new_builder s.options.interval
+    pub closed_is : {c : Close} {r : Result (Unit {0}) NoRoom} {b' e : BlockBuilder} → c ≡ close_in s → CountedIs s.indexed key c.handle r b' → e ≡ new_builder s.options.interval
         → ◌≡◌ {A = Builder}
         (record {
           options = s.options;
           lengths = s.lengths;
           written = c.end;
           pending = e;
-          indexed = r.block;
+          indexed = b';
           filtered = c.filters.bytes;
           made = c.filters.made;
           waiting = c.filters.waiting;
@@ -140,13 +141,13 @@ module _ (s : Builder) (h : Small s) where
 
 -- ---- one entry more
 
-pub entered_is : (s : Builder) (key : List ℕ) (v : ℕ) → Roomy s (length key) v → {r : Counted} → CountedIs s.pending key v r
+pub entered_is : (s : Builder) (key : List ℕ) (v : ℕ) → Roomy s (length key) v → {r : Result (Unit {0}) NoRoom} {b' : BlockBuilder} → CountedIs s.pending key v r b'
     → ◌≡◌ {A = Builder}
     (record {
       options = s.options;
       lengths = s.lengths;
       written = s.written;
-      pending = r.block;
+      pending = b';
       indexed = s.indexed;
       filtered = s.filtered;
       made = s.made;

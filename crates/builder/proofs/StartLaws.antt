@@ -17,11 +17,13 @@ use Rattle.table.specs.Runs.{Runs, filters_now, entries_of, restarts_in, held, b
 use Rattle.table.specs.Counts.{no_counts}
 use Rattle.table.proofs.CheckedLaws.{refuse_pass}
 use Rattle.table.proofs.CountsLaws.{counts_begin_lem}
-use Rattle.builder.specs.declared.table_builder.Answer.TheVariants as AnswerCase
+use Rattle.std.specs.Prelude.{Ok, Err}
+use Rattle.table_block.specs.declared.refusal.Refusal.TheVariants as Short
+use Rattle.table_block.specs.Refusals.{refusal}
 use Rattle.builder.specs.declared.table_builder.Options as Given
 use Rattle.builder.specs.declared.table_builder.Builder.{Builder}
-use Rattle.builder.specs.State.{options_of, counts_in, lengths_of, runs_fit, begun, no_builder, Stands}
-use Rattle.builder.specs.Answers.{answer_of, start_state, StartedIs}
+use Rattle.builder.specs.State.{options_of, counts_in, lengths_of, runs_fit, begun, Stands}
+use Rattle.builder.specs.Answers.{started, StartedIs}
 
 -- tests one after the other that refuse with one number are one test
 module _ (n : ℕ) where
@@ -72,20 +74,19 @@ module _ (o : Given.Options) (r : Runs) where
         runs = begun_runs;
       }
 
-  refused_start : {n : ℕ} {s : Builder} → start_of (options_of o) r ≡ refuse n → s ≡ no_builder → StartedIs o r r (record { answer = AnswerCase.Refused n; state = s })
-  unfolding answer_of start_state
-  refused_start h g = record { answer = rw h; state = rw h g; kept = refl; stands = λ p. absurd (refuse_pass (sym h ∙ p)) }
+  refused_start : {n : ℕ} → start_of (options_of o) r ≡ refuse n → StartedIs o r r (Err (refusal n))
+  unfolding started
+  refused_start h = record { said = rw h; kept = refl; stands = λ p. absurd (refuse_pass (sym h ∙ p)) }
 
-  pub refused_options : {t : Bool} {s : Builder} → t ≡ options_fit (options_of o) → t ≡ false → s ≡ no_builder
-      → StartedIs o r r (record { answer = AnswerCase.Refused 1; state = s })
-  refused_options e f g = refused_start (start_options (sym e ∙ f)) g
+  pub refused_options : {t : Bool} → t ≡ options_fit (options_of o) → t ≡ false → StartedIs o r r (Err Short.Options)
+  refused_options e f = refused_start (start_options (sym e ∙ f))
 
-  pub refused_runs : {t u : Bool} {s : Builder} → t ≡ options_fit (options_of o) → t ≡ true → u ≡ runs_fit (choice_of o.filter) (lengths_of r) → u ≡ false → s ≡ no_builder
-      → StartedIs o r r (record { answer = AnswerCase.Refused 2; state = s })
+  pub refused_runs : {t u : Bool} → t ≡ options_fit (options_of o) → t ≡ true → u ≡ runs_fit (choice_of o.filter) (lengths_of r) → u ≡ false
+      → StartedIs o r r (Err Short.Short)
   unfolding ask
-  refused_runs e f e' f' g = refused_start (start_fits (sym e ∙ f) ∙ rw (sym e' ∙ f')) g
+  refused_runs e f e' f' = refused_start {n = 2} (start_fits (sym e ∙ f) ∙ rw (sym e' ∙ f'))
 
   pub passed_start : {t u : Bool} {s : Builder} → t ≡ options_fit (options_of o) → t ≡ true → u ≡ runs_fit (choice_of o.filter) (lengths_of r) → u ≡ true → s ≡ begun o (lengths_of r)
-      → StartedIs o r r (record { answer = AnswerCase.Ok; state = s })
-  unfolding answer_of start_state ask
-  passed_start e f e' f' g = let h : start_of (options_of o) r ≡ pass tt = start_fits (sym e ∙ f) ∙ rw (sym e' ∙ f') in record { answer = rw h; state = rw h g; kept = refl; stands = λ p. rw g (begun_stands p) }
+      → StartedIs o r r (Ok s)
+  unfolding started ask
+  passed_start e f e' f' g = let h : start_of (options_of o) r ≡ pass tt = start_fits (sym e ∙ f) ∙ rw (sym e' ∙ f') in record { said = rw (h, g); kept = refl; stands = begun_stands }

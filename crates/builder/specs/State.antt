@@ -3,7 +3,6 @@ use Rattle.std.specs.Prelude.{ℕ, ◌+◌, ◌/◌, ◌≤◌, ◌≡◌, List,
 use Rattle.block_builder.specs.Builder.{count_in, new_builder}
 use Rattle.filters.specs.FilterBlock.{Filtering}
 use Rattle.bloom.specs.Choice.{choice_of}
-use Rattle.bloom.specs.declared.filter.Filter.TheVariants as FilterCase
 use Rattle.table.specs.Options.{Options, index_interval, options_fit, empty_size}
 use Rattle.table.specs.Build.{Building}
 use Rattle.table.specs.Checked.{pass}
@@ -11,6 +10,7 @@ use Rattle.table.specs.Runs.{Runs, room_of, start_of, between, overlaid}
 use Rattle.table.specs.Counts.{Counts, counts_of}
 use Rattle.builder.specs.declared.table_builder.Options as Given
 use Rattle.builder.specs.declared.table_builder.Lengths.{Lengths}
+use Rattle.builder.specs.declared.table_builder.Runs as Lent
 use Rattle.builder.specs.declared.table_builder.Builder.{Builder}
 
 -- options
@@ -44,6 +44,10 @@ lengths_of r =
 abbrev pub seven : List ℕ → List ℕ → List ℕ → List ℕ → List ℕ → List ℕ → List ℕ → Runs
 seven out index filters restarts index_restarts offsets hashes =
     record { out = out; index = index; filters = filters; restarts = restarts; index_restarts = index_restarts; offsets = offsets; hashes = hashes }
+
+-- what the lent runs hold
+abbrev pub lent : Lent.Runs → Runs
+lent r = seven r.out.now r.index.now r.filters.now r.restarts.now r.index_restarts.now r.offsets.now r.hashes.now
 
 -- runs of such lengths are long enough to start with
 unfoldable pub runs_fit : Filtering → Lengths → Bool
@@ -90,13 +94,6 @@ begun o l =
       waiting = 0;
       finished = false;
     }
-
--- the state that comes with a refusal of start
-unfoldable pub no_builder : Builder
-no_builder =
-    begun
-    (record { block_size = 0; interval = 0; filter = FilterCase.None })
-    (record { out = 0; index = 0; filters = 0; restarts = 0; index_restarts = 0; offsets = 0; hashes = 0 })
 
 -- a state and runs stand for a table being built
 pub record Stands (o : Options) (b : Building) (s : Builder) (r : Runs) : Type 0 where

@@ -1,5 +1,8 @@
 -- How the builder's private functions move a state, in numbers.
-use Rattle.std.specs.Prelude.{ℕ, zero, suc, ◌+◌, ◌≤◌, ◌≡◌, List, ◌⊎◌, Bool, true, ◌&&◌, cond, eqb, leb, ltb, length, take}
+use Rattle.std.specs.Prelude.{ℕ, zero, suc, ◌+◌, ◌≤◌, ◌≡◌, List, ◌⊎◌, Bool, true, ◌&&◌, cond, eqb, leb, ltb, length, take, Result, Ok, Err}
+use Rattle.table_block.specs.declared.refusal.Refusal as Why
+use Rattle.table_block.specs.declared.refusal.Refusal.TheVariants.{Order, Full}
+use Rattle.table_block.specs.Refusals.{number, refusal}
 use Rattle.keys.specs.Order.{below, separator}
 use Rattle.blocks.specs.Count.{count_size}
 use Rattle.block_builder.specs.Builder.{count_in, new_builder, builder_after}
@@ -142,6 +145,11 @@ sizes_in s = record { written = s.written; index = count_size (count_in s.indexe
 unfoldable pub early_of : Builder → Lengths → Bool → ℕ
 early_of s l fits = cond s.finished 6 (cond (sane s l) (cond fits 0 3) 2)
 
+-- what is said of a refusal by its number, or that there is none: 0
+abbrev pub unless : ℕ → Result (Unit {0}) Why.Refusal
+unless zero = Ok tt
+unless (suc n) = Err (refusal (suc n))
+
 -- a key is above the last one of the open block
 unfoldable pub above_last : Builder → List ℕ → Bool
 above_last s key = cond (eqb s.pending.restarts 0) true (below (last_of s) key)
@@ -170,20 +178,25 @@ fits_of s l = sane s l && (small s && leb (finished_size (options_of s.options) 
 unfoldable pub decide_of : Builder → Lengths → List ℕ → ℕ → ℕ
 decide_of s l key value = cond (small s) (cond (above_last s key) (cond (fits_of (next_of s key value) l) 0 5) 4) 5
 
+-- the number of a refusal that is answered, else 0
+abbrev pub said : {A : Type 0} → Result A Why.Refusal → ℕ
+said (Ok a) = 0
+said (Err e) = number e
+
 -- a state of such runs, and an entry within the limits
 pub record Ready (s : Builder) (l : Lengths) (k v : ℕ) : Type 0 where
   pub sound : sane s l ≡ true
   pub key : k ≤ 1032
   pub value : v ≤ 32768
 
--- deciding answers p
-pub record DecidedIs (s : Builder) (l : Lengths) (key : List ℕ) (value : ℕ) (p : Plan) : Type 0 where
-  pub kind : (p.answer ≡ 0) ⊎ ((p.answer ≡ 4) ⊎ (p.answer ≡ 5))
-  pub answer : Whole (next_of s key value) → p.answer ≡ decide_of s l key value
-  pub cut : p.answer ≡ 0 → p.cut ≡ cut_of s
-  pub pending : p.answer ≡ 0 → p.pending ≡ (mid_of s key).pending
-  pub waiting : p.answer ≡ 0 → p.waiting ≡ (mid_of s key).waiting
-  pub next : p.answer ≡ 0 → p.next ≡ next_of s key value
+-- deciding answers r
+pub record DecidedIs (s : Builder) (l : Lengths) (key : List ℕ) (value : ℕ) (r : Result Plan Why.Refusal) : Type 0 where
+  pub kind : (e : Why.Refusal) → r ≡ Err e → (e ≡ Order) ⊎ (e ≡ Full)
+  pub answer : Whole (next_of s key value) → said r ≡ decide_of s l key value
+  pub cut : (p : Plan) → r ≡ Ok p → p.cut ≡ cut_of s
+  pub pending : (p : Plan) → r ≡ Ok p → p.pending ≡ (mid_of s key).pending
+  pub waiting : (p : Plan) → r ≡ Ok p → p.waiting ≡ (mid_of s key).waiting
+  pub next : (p : Plan) → r ≡ Ok p → p.next ≡ next_of s key value
 
 -- ---- the end
 
@@ -197,12 +210,12 @@ endable s l =
     leb (finished_size (options_of s.options) (counts_in s)) l.out
     && (leb (last_filters s).bytes l.filters && (leb (last_filters s).made l.offsets && leb (last_state s).indexed.bytes l.index))
 
--- deciding of a finish answers p
-pub record EndingIs (s : Builder) (l : Lengths) (p : Ending) : Type 0 where
-  pub kind : (p.answer ≡ 0) ⊎ (p.answer ≡ 5)
-  pub answer : Whole s → p.answer ≡ cond (small s && endable s l) 0 5
-  pub size : p.answer ≡ 0 → Whole s → p.size ≡ finished_size (options_of s.options) (counts_in s)
-  pub small : p.answer ≡ 0 → Small s
-  pub last : p.answer ≡ 0 → p.last ≡ last_state s
-  pub sizes : p.answer ≡ 0 → filter_count_in p.sizes ≡ last_filters s
-  pub within : p.answer ≡ 0 → (p.sizes.bytes ≤ l.filters) × ((p.sizes.made ≤ l.offsets) × (p.last.indexed.bytes ≤ l.index))
+-- deciding of a finish answers r
+pub record EndingIs (s : Builder) (l : Lengths) (r : Result Ending Why.Refusal) : Type 0 where
+  pub kind : (e : Why.Refusal) → r ≡ Err e → e ≡ Full
+  pub answer : Whole s → said r ≡ cond (small s && endable s l) 0 5
+  pub size : (p : Ending) → r ≡ Ok p → Whole s → p.size ≡ finished_size (options_of s.options) (counts_in s)
+  pub small : (p : Ending) → r ≡ Ok p → Small s
+  pub last : (p : Ending) → r ≡ Ok p → p.last ≡ last_state s
+  pub sizes : (p : Ending) → r ≡ Ok p → filter_count_in p.sizes ≡ last_filters s
+  pub within : (p : Ending) → r ≡ Ok p → (p.sizes.bytes ≤ l.filters) × ((p.sizes.made ≤ l.offsets) × (p.last.indexed.bytes ≤ l.index))

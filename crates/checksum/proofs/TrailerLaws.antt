@@ -1,6 +1,7 @@
 -- The trailer of a block: how it is written, and when it stands.
 use Rattle.std.proofs.Common.{◌≡◌, ℕ, suc, ◌+◌, ◌^◌, ◌<◌, ◌≤◌, true, false, ◌&&◌, eqb, List, [], ◌∷◌, ◌++◌, length, get_or, drop, set, sym, ap, ◌∙◌, mod-lt, add-one, arith, lit<, length-drop, length-take, drop-cons, eq-eqb, ne_eqb}
-use Rattle.codec.specs.declared.put.Written.{Written}
+use Rattle.std.specs.Prelude.{Result}
+use Rattle.codec.specs.declared.put.NoRoom.{NoRoom}
 use Rattle.codec.specs.Bytes.{part, bytes_of, number_of, same_bytes}
 use Rattle.checksum.specs.Checksum.{crc_mask, crc_extend, seal_of, trailer, trailer_stands}
 use Rattle.codec.specs.Put.{Wrote}
@@ -25,7 +26,7 @@ trailer_length s = ap suc (bytes_length 4 (seal_of s))
 
 -- ---- writing
 
-pub wrote_trailer : (d : List ℕ) (offset size sum : ℕ) (r : Written) (e : List ℕ) → offset + size + 5 ≤ length d → sum ≡ seal_of (part d offset size)
+pub wrote_trailer : (d : List ℕ) (offset size sum : ℕ) (r : Result ℕ NoRoom) (e : List ℕ) → offset + size + 5 ≤ length d → sum ≡ seal_of (part d offset size)
     → Wrote (set d (offset + size) 0) (offset + size + 1) (bytes_of 4 sum) r e → Wrote d (offset + size) (trailer (part d offset size)) r e
 unfolding trailer
 wrote_trailer d offset size sum r e h q w =

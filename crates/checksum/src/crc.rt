@@ -17,11 +17,9 @@ fn bit(c: u32) -> u32
 fn byte(c: u32, b: u8) -> u32
     ensures { result ≡ crc_byte c b }
 {
-    let mut x = c ^ (b as u32);
-    let mut k: u32 = 0;
-    while k < 8 {
+    let mut x = c ^ u32::from(b);
+    for _k in 0..8u32 {
         x = bit(x);
-        k = k + 1;
     }
     x
 }
@@ -31,10 +29,8 @@ fn over(c: u32, s: &[u8]) -> u32
     ensures { result ≡ crc_over c s.now }
 {
     let mut x = c;
-    let mut i: usize = 0;
-    while i < s.len() {
-        x = byte(x, s[i]);
-        i = i + 1;
+    for b in s {
+        x = byte(x, *b);
     }
     x
 }
@@ -50,5 +46,5 @@ pub fn extend(crc: u32, s: &[u8]) -> u32
 pub fn mask_crc(crc: u32) -> u32
     ensures { result ≡ crc_mask crc }
 {
-    std::num::wrapping_add_u32((crc >> 15) | (crc << 17), 0xa282_ead8)
+    crc.rotate_right(15).wrapping_add(0xa282_ead8)
 }

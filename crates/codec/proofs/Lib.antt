@@ -6,3 +6,4 @@ pub mod VarintLaws
 pub mod VarintCode
 pub mod PutLaws
 pub mod FixedLaws
+pub mod GivenLaws

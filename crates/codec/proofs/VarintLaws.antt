@@ -83,9 +83,12 @@ pub varint_bytes_length : (x : ℕ) → length (varint_bytes x) ≤ 10
 unfolding varint_bytes
 varint_bytes_length x = bytes_most 10 x
 
+pub bytes_some : (n x : ℕ) → 1 ≤ length (varint_bytes_f (suc n) x)
+bytes_some n x = split x 128 (λ h. rw (bytes_last n x h) (omega arith)) (λ h. rw (bytes_more n x h) (omega arith))
+
 pub varint_one : (x : ℕ) → 1 ≤ length (varint_bytes x)
 unfolding varint_bytes
-varint_one x = split x 128 (λ h. rw (bytes_last 9 x h) (omega arith)) (λ h. rw (bytes_more 9 x h) (omega arith))
+varint_one x = bytes_some 9 x
 
 -- ---- what was written is read back
 

@@ -1,82 +1,62 @@
 // A block handle: where a block starts in a table and how many bytes it has, two varints.
 ghost use Rattle.std.specs.Prelude.{◌≡◌};
-ghost use Rattle.codec.specs.Answers.{handle_answer, one_handle_answer};
+ghost use Rattle.codec.specs.Answers.{given};
 ghost use Rattle.codec.specs.Varint.{handle, one_handle, handle_bytes};
 ghost use Rattle.codec.specs.Put.{Wrote};
 
-use crate::put::Written;
-use crate::varint::VarintRead;
+use crate::put::{NoRoom, end_of};
+use crate::varint::{read_varint, varint_len, write_varint};
 
-// What decoding finds: the handle and how many bytes it took, or none.
-#[derive(Clone, Copy)]
-pub enum HandleRead {
-    Handle {
-        offset: usize,
-        size: usize,
-        len: usize,
-    },
-    Bad,
+// Where a block stands.
+#[derive(Clone, Copy, Debug, PartialEq, Eq)]
+pub struct BlockHandle {
+    pub offset: usize,
+    pub size: usize,
 }
 
-// One handle and nothing more, or none.
-#[derive(Clone, Copy)]
-pub enum OneHandle {
-    Handle { offset: usize, size: usize },
-    None,
+// A handle, and how many bytes it took.
+#[derive(Clone, Copy, Debug, PartialEq, Eq)]
+pub struct HandleRead {
+    pub handle: BlockHandle,
+    pub size: usize,
 }
 
 // The handle that starts s.
-pub fn decode(s: &[u8]) -> HandleRead
-    ensures { result ≡ handle_answer (handle s.now) }
+pub fn decode(s: &[u8]) -> Option<HandleRead>
+    ensures { result ≡ given (handle s.now) }
 {
-    match crate::varint::read_varint(s) {
-        VarintRead::Bad => HandleRead::Bad,
-        VarintRead::Value { value, len } => match crate::varint::read_varint(&s[len..]) {
-            VarintRead::Bad => HandleRead::Bad,
-            VarintRead::Value {
-                value: size,
-                len: more,
-            } => HandleRead::Handle {
-                offset: value,
-                size: size,
-                len: len + more,
-            },
+    let offset = read_varint(s)?;
+    let size = read_varint(&s[offset.size..])?;
+    Some(HandleRead {
+        handle: BlockHandle {
+            offset: offset.value,
+            size: size.value,
         },
+        size: offset.size + size.size,
+    })
+}
+
+// The handle that s is, and nothing more.
+pub fn one_handle(s: &[u8]) -> Option<BlockHandle>
+    ensures { result ≡ given (one_handle s.now) }
+{
+    let read = decode(s)?;
+    if read.size == s.len() {
+        Some(read.handle)
+    } else {
+        None
     }
 }
 
-// The handle that s is.
-pub fn one_handle(s: &[u8]) -> OneHandle
-    ensures { result ≡ one_handle_answer (one_handle s.now) }
+// Writes a handle at a place of out; the place after it.
+pub fn encode_to(out: &mut [u8], at: usize, handle: BlockHandle) -> Result<usize, NoRoom>
+    ensures { Wrote out.old at (handle_bytes handle) result out.new }
 {
-    match decode(s) {
-        HandleRead::Bad => OneHandle::None,
-        HandleRead::Handle { offset, size, len } => {
-            if len == s.len() {
-                OneHandle::Handle {
-                    offset: offset,
-                    size: size,
-                }
-            } else {
-                OneHandle::None
-            }
-        }
-    }
-}
-
-// Writes a handle at a place of out.
-pub fn encode_to(out: &mut [u8], at: usize, offset: usize, size: usize) -> Written
-    ensures { Wrote out.old at (handle_bytes (record { offset = offset; size = size })) result out.new }
-{
-    let n = crate::varint::varint_len(offset) + crate::varint::varint_len(size);
-    if out.len() < at {
-        return Written::NoRoom;
-    }
-    if out.len() - at < n {
-        return Written::NoRoom;
-    }
-    match crate::varint::write_varint(out, at, offset) {
-        Written::NoRoom => Written::NoRoom,
-        Written::At(next) => crate::varint::write_varint(out, next, size),
-    }
+    end_of(
+        out.len(),
+        at,
+        varint_len(handle.offset) + varint_len(handle.size),
+    )?;
+    let next = write_varint(out, at, handle.offset)?;
+    write_varint(out, next, handle.size)
 }

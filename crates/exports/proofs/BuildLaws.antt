@@ -4,23 +4,20 @@ use mathlib.Core.Path.{◌≡◌, refl, ap, subst}
 use mathlib.Core.Bool.{Bool, true, false, cond, not}
 use lib.Dec.{eqb}
 use Rattle.codec.specs.Shown.{Shown}
-use Rattle.bloom.specs.declared.filter.Filter.{Filter}
-use Rattle.bloom.specs.declared.filter.Filter.TheVariants as FilterCase
+use Rattle.std.specs.Prelude.{Option, None, Some, Result}
+use Rattle.table_block.specs.declared.refusal.Refusal.{Refusal}
 use Rattle.table.specs.Options.{Addition}
 use Rattle.table.specs.Runs.{Runs}
-use Rattle.builder.specs.Answers.{StartedIs, AddedIs, FinishedIs}
-use Rattle.builder.specs.declared.table_builder.Added.{Added}
+use Rattle.builder.specs.Answers.{Added, Finished, StartedIs, AddedIs, FinishedIs}
 use Rattle.builder.specs.declared.table_builder.Builder.{Builder}
-use Rattle.builder.specs.declared.table_builder.Finished.{Finished}
 use Rattle.builder.specs.declared.table_builder.Options.{Options}
-use Rattle.builder.specs.declared.table_builder.Started.{Started}
 use Rattle.exports.specs.Building.{filter_in, filter_number, filter_bits, builder_in, state_out, state_kept, started_out, added_out, finished_out, StartsOut, AddsOut, FinishesOut}
 use Rattle.exports.specs.declared.building.SalevoniState.{SalevoniState}
 use Rattle.exports.specs.declared.building.SalevoniBuilt.{SalevoniBuilt}
 
-filter_kept : (f : Filter) → filter_in (filter_number f) (filter_bits f) ≡ f
-filter_kept FilterCase.None = refl
-filter_kept (FilterCase.Bits b) = refl
+filter_kept : (f : Option ℕ) → filter_in (filter_number f) (filter_bits f) ≡ f
+filter_kept None = refl
+filter_kept (Some b) = refl
 
 flag_kept : (b : Bool) → not (eqb (cond b 1 0) 0) ≡ b
 flag_kept true = refl
@@ -30,11 +27,11 @@ pub state_kept_lem : state_kept
 unfolding builder_in state_out
 state_kept_lem b = simp (filter_kept b.options.filter, flag_kept b.finished)
 
-abbrev options : ℕ → ℕ → Filter → Options
+abbrev options : ℕ → ℕ → Option ℕ → Options
 options size interval f = record { block_size = size; interval = interval; filter = f }
 
 -- options with equal filters
-pub with_filter_lem : {size interval : ℕ} {f g : Filter} → f ≡ g
+pub with_filter_lem : {size interval : ℕ} {f g : Option ℕ} → f ≡ g
     → options size interval f ≡ options size interval g
 with_filter_lem {size} {interval} e = ap (options size interval) e
 
@@ -43,7 +40,7 @@ shown_of : {S A R : Type 0} {show : A → R} (so : S → A → Type 0) {s z : S}
 shown_of so {x = x} e is shown = record { answer = x; shown = shown; is = subst (λ s. so s x) e is }
 
 -- start of options that are equal
-pub starts : {o p : Options} {r r' : Runs} {x : Started} {y : SalevoniBuilt} → o ≡ p → StartedIs o r r' x → y ≡ started_out x → StartsOut p r r' y
+pub starts : {o p : Options} {r r' : Runs} {x : Result Builder Refusal} {y : SalevoniBuilt} → o ≡ p → StartedIs o r r' x → y ≡ started_out x → StartsOut p r r' y
 starts {r = r} {r' = r'} = shown_of (λ o x. StartedIs o r r' x)
 
 -- add to the builder of a state

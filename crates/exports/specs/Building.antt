@@ -1,38 +1,32 @@
 -- The builder's state and its answers, in numbers.
-use Rattle.std.specs.Prelude.{ℕ, ◌≡◌, cond, not, eqb}
+use Rattle.std.specs.Prelude.{ℕ, ◌≡◌, cond, not, eqb, Option, None, Some, Result, Ok, Err}
 use Rattle.codec.specs.Shown.{Shown}
-use Rattle.bloom.specs.declared.filter.Filter as FilterEnum
-use Rattle.bloom.specs.declared.filter.Filter.TheVariants as FilterCase
 use Rattle.table.specs.Options.{Addition}
 use Rattle.table.specs.Runs.{Runs}
-use Rattle.builder.specs.Answers.{StartedIs, AddedIs, FinishedIs}
-use Rattle.builder.specs.declared.table_builder.Added.{Added}
-use Rattle.builder.specs.declared.table_builder.Answer.{Answer}
-use Rattle.builder.specs.declared.table_builder.Answer.TheVariants as AnswerCase
+use Rattle.table_block.specs.declared.refusal.Refusal.{Refusal}
+use Rattle.table_block.specs.Refusals.{number}
+use Rattle.builder.specs.State.{begun}
+use Rattle.builder.specs.Answers.{Added, Finished, StartedIs, AddedIs, FinishedIs}
 use Rattle.builder.specs.declared.table_builder.Builder.{Builder}
-use Rattle.builder.specs.declared.table_builder.Finished.{Finished}
 use Rattle.builder.specs.declared.table_builder.Options.{Options}
-use Rattle.builder.specs.declared.table_builder.Outcome.{Outcome}
-use Rattle.builder.specs.declared.table_builder.Outcome.TheVariants as OutcomeCase
-use Rattle.builder.specs.declared.table_builder.Started.{Started}
 use Rattle.exports.specs.declared.building.SalevoniState.{SalevoniState}
 use Rattle.exports.specs.declared.building.SalevoniBuilt.{SalevoniBuilt}
 
 -- ---- the state
 
 -- a filter choice: 0 is none, any other number so many bits per key
-abbrev pub filter_in : ℕ → ℕ → FilterEnum.Filter
-filter_in n bits = cond (eqb n 0) FilterCase.None (FilterCase.Bits bits)
+abbrev pub filter_in : ℕ → ℕ → Option ℕ
+filter_in n bits = cond (eqb n 0) None (Some bits)
 
 -- the number of a choice
-abbrev pub filter_number : FilterEnum.Filter → ℕ
-filter_number FilterCase.None = 0
-filter_number (FilterCase.Bits b) = 1
+abbrev pub filter_number : Option ℕ → ℕ
+filter_number None = 0
+filter_number (Some b) = 1
 
 -- its bits per key
-abbrev pub filter_bits : FilterEnum.Filter → ℕ
-filter_bits FilterCase.None = 0
-filter_bits (FilterCase.Bits b) = b
+abbrev pub filter_bits : Option ℕ → ℕ
+filter_bits None = 0
+filter_bits (Some b) = b
 
 -- the builder of a state
 unfoldable pub builder_in : SalevoniState → Builder
@@ -73,27 +67,42 @@ state_kept = (b : Builder) → builder_in (state_out b) ≡ b
 
 -- ---- the answers
 
--- 0 with the table's size and a new state, or the refusal's number with another
-unfoldable pub answered : SalevoniState → SalevoniState → Outcome → SalevoniBuilt
-answered before after (OutcomeCase.Size n) = record { answer = 0; size = n; state = after }
-answered before after (OutcomeCase.Refused n) = record { answer = n; size = 0; state = before }
+-- the state of nothing, that comes with a refusal of start
+abbrev pub nothing : SalevoniState
+nothing = state_out (begun
+    (record { block_size = 0; interval = 0; filter = None })
+    (record { out = 0; index = 0; filters = 0; restarts = 0; index_restarts = 0; offsets = 0; hashes = 0 }))
 
--- an answer of start or add as one of finish: the size is 0
-abbrev pub outcome_of : Answer → Outcome
-outcome_of AnswerCase.Ok = OutcomeCase.Size 0
-outcome_of (AnswerCase.Refused n) = OutcomeCase.Refused n
+-- 0 with the table's size and a new state
+abbrev pub built : ℕ → Builder → SalevoniBuilt
+built n b = record { answer = 0; size = n; state = state_out b }
+
+-- a refusal's number with a state
+abbrev pub refused : SalevoniState → Refusal → SalevoniBuilt
+refused s why = record { answer = number why; size = 0; state = s }
 
 -- what start answers
-abbrev pub started_out : Started → SalevoniBuilt
-started_out x = answered (state_out x.state) (state_out x.state) (outcome_of x.answer)
+abbrev pub started_out : Result Builder Refusal → SalevoniBuilt
+started_out (Ok b) = built 0 b
+started_out (Err why) = refused nothing why
+
+-- an answer that is done or refused: a refusal comes with the state that went in
+abbrev pub answered : SalevoniState → Builder → Result ℕ Refusal → SalevoniBuilt
+answered before b (Ok n) = built n b
+answered before b (Err why) = refused before why
+
+-- an answer of add as one of finish: the size is 0
+abbrev pub sized : Result (Unit {0}) Refusal → Result ℕ Refusal
+sized (Ok u) = Ok 0
+sized (Err why) = Err why
 
 -- what add answers: a refusal comes with the state that went in
 abbrev pub added_out : SalevoniState → Added → SalevoniBuilt
-added_out before x = answered before (state_out x.state) (outcome_of x.answer)
+added_out before x = answered before x.state (sized x.answer)
 
 -- what finish answers
 abbrev pub finished_out : SalevoniState → Finished → SalevoniBuilt
-finished_out before x = answered before (state_out x.state) x.answer
+finished_out before x = answered before x.state x.answer
 
 -- start answers x and turns the runs r into r'
 abbrev pub StartsOut : Options → Runs → Runs → SalevoniBuilt → Type 0

@@ -1,23 +1,20 @@
 -- The answers of the full check and the reads, in numbers.
-use Rattle.std.specs.Prelude.{ℕ, ◌≡◌, List}
+use Rattle.std.specs.Prelude.{ℕ, ◌≡◌, List, None, Some, Result, Ok, Err}
 use Rattle.codec.specs.Shown.{Shown}
 use Rattle.keys.specs.Order.{Point}
 use Rattle.table.specs.Table.{full_check}
 use Rattle.full_check.specs.Answers.{verdict_of}
-use Rattle.full_check.specs.declared.check.Verdict.{Verdict}
-use Rattle.full_check.specs.declared.check.Verdict.TheVariants as VerdictCase
-use Rattle.reader.specs.Answers.{Seeks, Looks, Steps}
+use Rattle.table_block.specs.Refusals.{number}
+use Rattle.table_block.specs.declared.refusal.Refusal.{Refusal}
+use Rattle.reader.specs.Answers.{Sought, Seeks, Looked, Looks, Steps}
 use Rattle.reader.specs.declared.table_reader.Entry.{Entry}
-use Rattle.reader.specs.declared.table_reader.Found as FoundEnum
 use Rattle.reader.specs.declared.table_reader.Found.TheVariants as FoundCase
-use Rattle.reader.specs.declared.table_reader.Sought.{Sought}
-use Rattle.reader.specs.declared.table_reader.Sought.TheVariants as SoughtCase
 use Rattle.exports.specs.declared.reads.SalevoniEntry.{SalevoniEntry}
 
 -- a verdict that passes is 0, a refusal its number
-abbrev pub verdict_number : Verdict → ℕ
-verdict_number VerdictCase.Pass = 0
-verdict_number (VerdictCase.Refused n) = n
+abbrev pub verdict_number : Result (Unit {0}) Refusal → ℕ
+verdict_number (Ok u) = 0
+verdict_number (Err e) = number e
 
 -- an entry with a number
 abbrev pub entry_with : ℕ → Entry → SalevoniEntry
@@ -36,17 +33,17 @@ abbrev pub no_entry : ℕ → SalevoniEntry
 no_entry n = record { answer = n; index = 0; entry = 0; key_len = 0; value_at = 0; value_len = 0 }
 
 -- seek and step: 0 with an entry, 100 for none, or the refusal's number
-unfoldable pub sought_out : Sought → SalevoniEntry
-sought_out (SoughtCase.Entry e) = entry_with 0 e
-sought_out SoughtCase.None = no_entry 100
-sought_out (SoughtCase.Refused n) = no_entry n
+abbrev pub sought_out : Sought → SalevoniEntry
+sought_out (Ok (Some e)) = entry_with 0 e
+sought_out (Ok None) = no_entry 100
+sought_out (Err why) = no_entry (number why)
 
 -- lookup: 0 with an entry, 101 with a deletion, 100 for absent, or the refusal's number
-unfoldable pub looked_out : FoundEnum.Found → SalevoniEntry
-looked_out (FoundCase.Entry e) = entry_with 0 e
-looked_out (FoundCase.Deleted e) = entry_with 101 e
-looked_out FoundCase.Absent = no_entry 100
-looked_out (FoundCase.Refused n) = no_entry n
+abbrev pub looked_out : Looked → SalevoniEntry
+looked_out (Ok (FoundCase.Entry e)) = entry_with 0 e
+looked_out (Ok (FoundCase.Deleted e)) = entry_with 101 e
+looked_out (Ok FoundCase.Absent) = no_entry 100
+looked_out (Err why) = no_entry (number why)
 
 -- the full check answers r
 abbrev pub ChecksOut : List ℕ → ℕ → Type 0

@@ -1,12 +1,12 @@
 // A table built: start, add, finish. The state goes in and comes back by value.
 ghost use Rattle.std.specs.Prelude.{◌≡◌};
 ghost use Rattle.builder.specs.State.{seven};
-ghost use Rattle.exports.specs.Building.{filter_in, filter_number, filter_bits, builder_in, state_out, outcome_of, answered, started_out, added_out, StartsOut, AddsOut, FinishesOut};
+ghost use Rattle.builder.specs.State.{begun};
+ghost use Rattle.exports.specs.Building.{filter_in, builder_in, state_out, nothing, built, refused, StartsOut, AddsOut, FinishesOut};
 
 use block_builder::block_builder::BlockBuilder;
-use bloom::filter::Filter;
-use builder::table_builder::{Added, Answer, Builder, Lengths, Options, Outcome, Started};
-use pieces::numbers::number_if;
+use builder::table_builder::{Builder, Lengths, Options, Runs, start};
+use table_block::refusal::Refusal;
 
 // A table being built, the builder's state in numbers: filter is 0 for none, else Bloom with so many bits per key; finished is
 // 0 until finish.
@@ -38,130 +38,103 @@ pub struct SalevoniBuilt {
 }
 
 // A filter choice by its numbers.
-fn filter_in(filter: u32, bits: u32) -> Filter
+fn filter_in(filter: u32, bits: u32) -> Option<u32>
     ensures { result ≡ filter_in filter bits }
 {
-    if filter == 0 {
-        Filter::None
-    } else {
-        Filter::Bits(bits)
+    if filter == 0 { None } else { Some(bits) }
+}
+
+impl From<SalevoniState> for Builder {
+    ghost from_gives = { λ s b. b ≡ builder_in s };
+
+    fn from(s: SalevoniState) -> Builder {
+        Builder {
+            options: Options {
+                block_size: s.block_size,
+                interval: s.interval,
+                filter: filter_in(s.filter, s.bits),
+            },
+            lengths: s.lengths,
+            written: s.written,
+            pending: s.pending,
+            indexed: s.indexed,
+            filtered: s.filtered,
+            made: s.made,
+            waiting: s.waiting,
+            finished: s.finished != 0,
+        }
     }
 }
 
-// Whether there is a filter.
-fn filter_number(f: Filter) -> u32
-    ensures { result ≡ filter_number f }
-{
-    match f {
-        Filter::None => 0,
-        Filter::Bits(_) => 1,
+impl From<Builder> for SalevoniState {
+    ghost from_gives = { λ b s. s ≡ state_out b };
+
+    fn from(b: Builder) -> SalevoniState {
+        SalevoniState {
+            block_size: b.options.block_size,
+            interval: b.options.interval,
+            filter: u32::from(b.options.filter.is_some()),
+            bits: b.options.filter.unwrap_or(0),
+            lengths: b.lengths,
+            written: b.written,
+            pending: b.pending,
+            indexed: b.indexed,
+            filtered: b.filtered,
+            made: b.made,
+            waiting: b.waiting,
+            finished: u32::from(b.finished),
+        }
     }
 }
 
-// Its bits per key.
-fn filter_bits(f: Filter) -> u32
-    ensures { result ≡ filter_bits f }
+// The state that comes with a refusal of start: of nothing.
+fn nothing() -> SalevoniState
+    ensures { result ≡ nothing }
 {
-    match f {
-        Filter::None => 0,
-        Filter::Bits(b) => b,
-    }
-}
-
-// The builder of a state.
-fn builder_in(s: SalevoniState) -> Builder
-    ensures { result ≡ builder_in s }
-{
-    let l = s.lengths;
-    let p = s.pending;
-    let i = s.indexed;
-    let options = Options {
-        block_size: s.block_size,
-        interval: s.interval,
-        filter: filter_in(s.filter, s.bits),
-    };
-    Builder {
-        options: options,
-        lengths: l,
-        written: s.written,
-        pending: p,
-        indexed: i,
-        filtered: s.filtered,
-        made: s.made,
-        waiting: s.waiting,
-        finished: s.finished != 0,
-    }
-}
-
-// The state of a builder.
-fn state_out(b: Builder) -> SalevoniState
-    ensures { result ≡ state_out b }
-{
-    let o = b.options;
-    let f = o.filter;
-    let l = b.lengths;
-    let p = b.pending;
-    let i = b.indexed;
     SalevoniState {
-        block_size: o.block_size,
-        interval: o.interval,
-        filter: filter_number(f),
-        bits: filter_bits(f),
-        lengths: l,
-        written: b.written,
-        pending: p,
-        indexed: i,
-        filtered: b.filtered,
-        made: b.made,
-        waiting: b.waiting,
-        finished: number_if(b.finished, 1, 0),
-    }
-}
-
-// An answer of start or add as one of finish, with a size of 0.
-fn outcome_of(answer: Answer) -> Outcome
-    ensures { result ≡ outcome_of answer }
-{
-    match answer {
-        Answer::Ok => Outcome::Size(0),
-        Answer::Refused(n) => Outcome::Refused(n),
-    }
-}
-
-// What a call answers: 0 with the size and the state after, or the refusal's number with the state before.
-fn answered(before: SalevoniState, b: Builder, outcome: Outcome) -> SalevoniBuilt
-    ensures { result ≡ answered before (state_out b) outcome }
-{
-    match outcome {
-        Outcome::Size(n) => SalevoniBuilt {
-            answer: 0,
-            size: n,
-            state: state_out(b),
+        block_size: 0,
+        interval: 0,
+        filter: 0,
+        bits: 0,
+        lengths: Lengths {
+            out: 0,
+            index: 0,
+            filters: 0,
+            restarts: 0,
+            index_restarts: 0,
+            offsets: 0,
+            hashes: 0,
         },
-        Outcome::Refused(n) => SalevoniBuilt {
-            answer: n,
-            size: 0,
-            state: before,
-        },
+        written: 0,
+        pending: BlockBuilder::new(0),
+        indexed: BlockBuilder::new(0),
+        filtered: 0,
+        made: 0,
+        waiting: 0,
+        finished: 0,
     }
 }
 
-// Start's answer and the state that it gives.
-fn started_out(x: Started) -> SalevoniBuilt
-    ensures { result ≡ started_out x }
+// A call that is done: the table's size, and the state to go on with.
+fn built(size: usize, b: Builder) -> SalevoniBuilt
+    ensures { result ≡ built size b }
 {
-    let answer = x.answer;
-    let b = x.state;
-    answered(state_out(b), b, outcome_of(answer))
+    SalevoniBuilt {
+        answer: 0,
+        size,
+        state: SalevoniState::from(b),
+    }
 }
 
-// Add's answer; a refusal comes with the state that went in.
-fn added_out(before: SalevoniState, x: Added) -> SalevoniBuilt
-    ensures { result ≡ added_out before x }
+// A call that is refused, and the state that comes with it.
+fn refused(state: SalevoniState, why: Refusal) -> SalevoniBuilt
+    ensures { result ≡ refused state why }
 {
-    let answer = x.answer;
-    let b = x.state;
-    answered(before, b, outcome_of(answer))
+    SalevoniBuilt {
+        answer: why.number(),
+        size: 0,
+        state,
+    }
 }
 
 // Starts a table in seven runs; nothing is written.
@@ -181,12 +154,11 @@ pub fn salevoni_start(
     ensures { StartsOut (record { block_size = block_size; interval = interval; filter = filter_in filter bits }) (seven out.old index.old filters.old restarts.old index_restarts.old offsets.old hashes.old) (seven out.new index.new filters.new restarts.new index_restarts.new offsets.new hashes.new) result }
 {
     let options = Options {
-        block_size: block_size,
-        interval: interval,
+        block_size,
+        interval,
         filter: filter_in(filter, bits),
     };
-    let x = builder::table_builder::start(
-        options,
+    let runs = Runs {
         out,
         index,
         filters,
@@ -194,8 +166,11 @@ pub fn salevoni_start(
         index_restarts,
         offsets,
         hashes,
-    );
-    started_out(x)
+    };
+    match start(options, runs) {
+        Ok(b) => built(0, b),
+        Err(why) => refused(nothing(), why),
+    }
 }
 
 // Adds an entry: a word, its edition and kind, and a value.
@@ -215,8 +190,8 @@ pub fn salevoni_add(
 ) -> SalevoniBuilt
     ensures { AddsOut state (seven out.old index.old filters.old restarts.old index_restarts.old offsets.old hashes.old) (seven out.new index.new filters.new restarts.new index_restarts.new offsets.new hashes.new) (record { word = word.entry.now; edition = edition; kind = kind; value = value.now }) result }
 {
-    let b = builder_in(state);
-    let x = b.add(
+    let mut b = Builder::from(state);
+    let runs = Runs {
         out,
         index,
         filters,
@@ -224,12 +199,11 @@ pub fn salevoni_add(
         index_restarts,
         offsets,
         hashes,
-        word,
-        edition,
-        kind,
-        value,
-    );
-    added_out(state, x)
+    };
+    match b.add(runs, word, edition, kind, value) {
+        Ok(()) => built(0, b),
+        Err(why) => refused(state, why),
+    }
 }
 
 // Writes all that is left of the table, which is then the first size bytes of out.
@@ -245,8 +219,8 @@ pub fn salevoni_finish(
 ) -> SalevoniBuilt
     ensures { FinishesOut state (seven out.old index.old filters.old restarts.old index_restarts.old offsets.old hashes.old) (seven out.new index.new filters.new restarts.new index_restarts.new offsets.new hashes.new) result }
 {
-    let b = builder_in(state);
-    let x = b.finish(
+    let mut b = Builder::from(state);
+    let runs = Runs {
         out,
         index,
         filters,
@@ -254,8 +228,9 @@ pub fn salevoni_finish(
         index_restarts,
         offsets,
         hashes,
-    );
-    let outcome = x.answer;
-    let after = x.state;
-    answered(state, after, outcome)
+    };
+    match b.finish(runs) {
+        Ok(size) => built(size, b),
+        Err(why) => refused(state, why),
+    }
 }

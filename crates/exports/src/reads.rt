@@ -2,8 +2,8 @@
 ghost use Rattle.std.specs.Prelude.{◌≡◌};
 ghost use Rattle.exports.specs.Reads.{verdict_number, entry_with, no_entry, sought_out, looked_out, ChecksOut, SeeksOut, LooksOut, StepsOut};
 
-use full_check::check::Verdict;
-use reader::table_reader::{Entry, Found, Place, Sought};
+use reader::table_reader::{Entry, Found, Place, Sought, lookup, seek, step};
+use table_block::refusal::Refusal;
 
 // What a read answers, in a number, and the entry that it found: where its index entry starts in the index block and where it
 // starts in its data block; how many bytes its key has; where in the table its value starts and how many bytes that has. All
@@ -20,12 +20,12 @@ pub struct SalevoniEntry {
 }
 
 // The number of a verdict.
-fn verdict_number(v: Verdict) -> u32
+fn verdict_number(v: Result<(), Refusal>) -> u32
     ensures { result ≡ verdict_number v }
 {
     match v {
-        Verdict::Pass => 0,
-        Verdict::Refused(n) => n,
+        Ok(()) => 0,
+        Err(e) => e.number(),
     }
 }
 
@@ -57,26 +57,28 @@ fn no_entry(n: u32) -> SalevoniEntry
     }
 }
 
-// What a seek or a step answers.
-fn sought_out(s: Sought) -> SalevoniEntry
-    ensures { result ≡ sought_out s }
-{
-    match s {
-        Sought::Entry(e) => entry_with(0, e),
-        Sought::None => no_entry(100),
-        Sought::Refused(n) => no_entry(n),
+impl From<Sought> for SalevoniEntry {
+    ghost from_gives = { λ s e. e ≡ sought_out s };
+
+    fn from(sought: Sought) -> SalevoniEntry {
+        match sought {
+            Ok(Some(e)) => entry_with(0, e),
+            Ok(None) => no_entry(100),
+            Err(why) => no_entry(why.number()),
+        }
     }
 }
 
-// What a lookup answers.
-fn looked_out(f: Found) -> SalevoniEntry
-    ensures { result ≡ looked_out f }
-{
-    match f {
-        Found::Entry(e) => entry_with(0, e),
-        Found::Deleted(e) => entry_with(101, e),
-        Found::Absent => no_entry(100),
-        Found::Refused(n) => no_entry(n),
+impl From<Result<Found, Refusal>> for SalevoniEntry {
+    ghost from_gives = { λ f e. e ≡ looked_out f };
+
+    fn from(looked: Result<Found, Refusal>) -> SalevoniEntry {
+        match looked {
+            Ok(Found::Entry(e)) => entry_with(0, e),
+            Ok(Found::Deleted(e)) => entry_with(101, e),
+            Ok(Found::Absent) => no_entry(100),
+            Err(why) => no_entry(why.number()),
+        }
     }
 }
 
@@ -91,14 +93,14 @@ pub fn salevoni_check(table: &[u8]) -> u32
 pub fn salevoni_seek(table: &[u8], word: &[u8], edition: u64, key: &mut [u8]) -> SalevoniEntry
     ensures { SeeksOut table.now (record { word = word.entry.now; edition = edition }) key.old result key.new }
 {
-    sought_out(reader::table_reader::seek(table, word, edition, key))
+    SalevoniEntry::from(seek(table, word, edition, key))
 }
 
 // The newest entry of a word that is no newer than an edition; its key goes to the front of key.
 pub fn salevoni_lookup(table: &[u8], word: &[u8], edition: u64, key: &mut [u8]) -> SalevoniEntry
     ensures { LooksOut table.now (record { word = word.entry.now; edition = edition }) key.old result key.new }
 {
-    looked_out(reader::table_reader::lookup(table, word, edition, key))
+    SalevoniEntry::from(lookup(table, word, edition, key))
 }
 
 // The entry after the one at a place; its key goes to the front of key.
@@ -106,5 +108,5 @@ pub fn salevoni_step(table: &[u8], index: usize, entry: usize, key: &mut [u8]) -
     ensures { StepsOut table.now index entry key.old result key.new }
 {
     let place = Place { index, entry };
-    sought_out(reader::table_reader::step(table, place, key))
+    SalevoniEntry::from(step(table, place, key))
 }

@@ -1,24 +1,56 @@
--- A block in a table: that it is well formed, and that its keys rise.
-use Prim.Native.Nat.{ℕ, ◌+◌, ◌-◌, ◌≤◌}
-use mathlib.Core.Path.{◌≡◌, refl, sym, ap, ◌∙◌}
+-- A block in a table: that it stands there, that it is well formed, and that its keys rise.
+use Prim.Native.Nat.{ℕ, ◌+◌, ◌-◌}
+use mathlib.Core.Path.{◌≡◌, refl, sym}
 use mathlib.Core.Bool.{Bool, true, false, false≢true}
 use mathlib.Core.List.{List}
 use mathlib.Core.Option.{Option, none, some}
 use lib.ListN.{length, take, drop}
-use Rattle.codec.specs.Bytes.{part}
+use Rattle.std.specs.Prelude.{Result}
+use Rattle.codec.specs.Varint.{Handle}
 use Rattle.checksum.specs.Checksum.{trailer_stands}
 use Rattle.codec.proofs.BytesLaws.{part_between}
-use Rattle.checksum.proofs.TrailerLaws.{stands_within}
-use Rattle.codec.proofs.Prelude.{is_true}
 use Rattle.blocks.specs.Block.{Entry, pairs_of}
 use Rattle.blocks.specs.Formed.{Kind, well_formed, is_formed, rises}
 use Rattle.blocks.specs.Search.{readable}
 use Rattle.blocks.proofs.FormedLaws.{formed_readable}
 use Rattle.table.specs.Checked.{Checked, pass, refuse, ◌>>=◌, ask, or_refuse}
-use Rattle.table.specs.Table.{contents, sealed, less_of, sorted_in, sorted_at}
-use Rattle.table.proofs.CheckedLaws.{passing, asking, or_refuse_pass, pass_same}
-use Rattle.full_check.specs.declared.check.Verdict.TheVariants as VerdictCase
-use Rattle.full_check.specs.Steps.{Judged}
+use Rattle.table.specs.Table.{ends_before, placed, contents, sealed, less_of, sorted_in, sorted_at}
+use Rattle.table_block.specs.declared.refusal.Refusal.{Refusal}
+use Rattle.full_check.specs.Steps.{Judged, stands}
+
+-- ---- a block's place
+
+module _ (t : List ℕ) (h : Handle) where
+  -- its bytes, as code lends them
+  pub lent : take (h.offset + h.size - h.offset) (drop h.offset t) ≡ contents t h
+  unfolding contents
+  lent = part_between t h.offset h.size
+
+  pub unsealed : trailer_stands t h.offset h.size ≡ false → sealed t h ≡ refuse 9
+  unfolding sealed ask
+  unsealed f = rw f
+
+  pub is_sealed : trailer_stands t h.offset h.size ≡ true → sealed t h ≡ pass tt
+  unfolding sealed ask
+  is_sealed f = rw f
+
+  pub outside : ends_before (length t) h.offset h.size ≡ false → stands t h ≡ refuse 8
+  unfolding stands placed ask ◌>>=◌
+  outside f = rw f
+
+  pub inside : ends_before (length t) h.offset h.size ≡ true → sealed t h ≡ stands t h
+  unfolding stands placed ask ◌>>=◌
+  inside f = rw f
+
+-- what passes a step is judged by the next
+pub then_judged : {A B C : Type 0} {m : Checked A} {a : A} (f : A → Checked B) (P : B → C → Type 0) (r : Result C Refusal) → m ≡ pass a → Judged (f a) P r → Judged (m >>= f) P r
+unfolding ◌>>=◌
+then_judged f P r e j = rw e j
+
+-- what a step refuses is refused
+pub then_refused : {A B : Type 0} {m : Checked A} {n : ℕ} (f : A → Checked B) → m ≡ refuse n → m >>= f ≡ refuse n
+unfolding ◌>>=◌
+then_refused f e = rw e
 
 -- ---- well-formed blocks
 
@@ -46,9 +78,6 @@ not_formed kind s f = go (well_formed kind s) refl f
 
 -- ---- metaindex and index
 
-pub judged_pass : {c : Checked (List Entry)} {es : List Entry} → c ≡ pass es → Judged c VerdictCase.Pass
-judged_pass {es = es} e = (es, e)
-
 module _ (kind : Kind) (s : List ℕ) where
   pub sorted_malformed : is_formed kind s ≡ false → sorted_in kind s ≡ refuse 10
   unfolding sorted_in or_refuse ◌>>=◌
@@ -63,27 +92,11 @@ module _ (kind : Kind) (s : List ℕ) where
     unfolding sorted_in or_refuse ◌>>=◌ ask
     sorted_rises f = rw (is, f)
 
-module _ (kind : Kind) (t : List ℕ) (offset size : ℕ) where
-  pub sorted_unsealed : trailer_stands t offset size ≡ false → sorted_at kind t (record { offset = offset; size = size }) ≡ refuse 9
-  unfolding sorted_at sealed ◌>>=◌ ask
-  sorted_unsealed f = rw f
+module _ (kind : Kind) (t : List ℕ) (h : Handle) where
+  pub sorted_unsealed : {n : ℕ} → sealed t h ≡ refuse n → sorted_at kind t h ≡ refuse n
+  unfolding sorted_at
+  sorted_unsealed e = then_refused _ e
 
-  pub sorted_sealed : trailer_stands t offset size ≡ true → sorted_at kind t (record { offset = offset; size = size }) ≡ sorted_in kind (take (offset + size - offset) (drop offset t))
-  unfolding sorted_at sealed ◌>>=◌ ask contents
-  sorted_sealed f = rw (f, part_between t offset size)
-
-  -- what passed can be read, as code lends it
-  pub record Sorted (es : List Entry) : Type 0 where
-    pub within : offset + size + 5 ≤ length t
-    pub reads : readable (take (offset + size - offset) (drop offset t)) ≡ some es
-
-  pub sorted_read : {es : List Entry} → sorted_at kind t (record { offset = offset; size = size }) ≡ pass es → Sorted es
-  unfolding sorted_at sealed sorted_in contents
-  sorted_read {es} e =
-      asking _ _ _ e λ stands e.
-      passing _ _ e λ fs is e.
-      asking _ _ _ e λ up e.
-      record {
-        within = stands_within t offset size (is_true _ stands);
-        reads = rw (part_between t offset size) (formed_readable kind (part t offset size) (or_refuse_pass 10 _ is ∙ ap some (pass_same e)));
-      }
+  pub sorted_sealed : {u : Unit {0}} {s : List ℕ} → sealed t h ≡ pass u → s ≡ contents t h → sorted_at kind t h ≡ sorted_in kind s
+  unfolding sorted_at ◌>>=◌
+  sorted_sealed e same = rw (e, same)

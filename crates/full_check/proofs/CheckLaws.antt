@@ -1,13 +1,11 @@
 -- The whole check, by the outcome of each step, as code takes them.
-use Prim.Native.Nat.{ℕ, ◌+◌, ◌-◌}
+use Prim.Native.Nat.{ℕ}
 use mathlib.Core.Path.{◌≡◌, refl, sym, ap, ◌∙◌}
 use mathlib.Core.Bool.{Bool, true, false, ◌&&◌, not}
 use mathlib.Core.List.{List, [], ◌∷◌}
 use mathlib.Core.Option.{Option, none, some}
-use lib.ListN.{length, take, drop}
-use Rattle.checksum.specs.Checksum.{trailer_stands}
+use Rattle.std.specs.Prelude.{Ok, Err}
 use Rattle.codec.specs.Varint.{Handle}
-use Rattle.codec.proofs.BytesLaws.{part_between}
 use Rattle.keys.specs.Order.{user_of, below}
 use Rattle.block_reader.specs.declared.block.Kind.TheVariants as KindCase
 use Rattle.blocks.specs.Block.{Pair, Entry, last_key_of, pairs_of}
@@ -15,15 +13,16 @@ use Rattle.blocks.specs.Formed.{index_block, meta_block, all, rises}
 use Rattle.block_reader.specs.Said.{kind_of}
 use Rattle.filters.specs.Filter.{hash}
 use Rattle.filters.specs.FilterBlock.{filter_formed, may_match}
-use Rattle.table_block.specs.declared.footer.FooterRead.TheVariants as FooterCase
+use Rattle.table_block.specs.declared.footer.Footer as Declared
+use Rattle.table_block.specs.declared.refusal.Refusal.{Refusal}
 use Rattle.table_block.specs.Answers.{footer_answer}
 use Rattle.table.specs.Checked.{Checked, pass, refuse, ◌>>=◌, ask}
-use Rattle.table.specs.Table.{ends_before, placed, Footer, footer, contents, sealed, block_of, sorted_at, bloom_handle, filter_of, may_hold, opened, Edge, first_follows, handle_of, data_block_of, data_blocks_of, full_check}
-use Rattle.table_block.proofs.FooterLaws.{footer_said}
-use Rattle.full_check.specs.declared.check.Verdict.TheVariants as VerdictCase
+use Rattle.table.specs.Table.{placed, Footer, footer, contents, sealed, block_of, sorted_at, bloom_handle, filter_of, may_hold, opened, Edge, first_follows, handle_of, data_block_of, data_blocks_of, full_check}
+use Rattle.table_block.proofs.RefusalLaws.{ok_is, err_is, ok_not_err, err_not_ok}
+use Rattle.table_block.specs.Refusals.{refusal}
 use Rattle.full_check.specs.Answers.{verdict_of}
-use Rattle.full_check.specs.Steps.{ordered, filter_bytes, lets, data_in, data_at, blocks_at, with_filter, after_footer}
-use Rattle.full_check.proofs.DataLaws.{refused}
+use Rattle.full_check.specs.Steps.{ordered, filter_bytes, lets, stands, data_in, data_at, blocks_at, with_filter, after_footer}
+use Rattle.full_check.proofs.BlockLaws.{then_refused}
 
 -- ---- tests after tests
 
@@ -75,35 +74,41 @@ module _ (t : List ℕ) (f : Option (List ℕ)) where
 -- ---- the filter block
 
 module _ (t : List ℕ) (ixs : List Pair) where
+  filter_by : (h : Handle) → with_filter t (some h) ixs ≡ stands t h >>= (λ _. ask 12 (filter_formed (contents t h)) >>= (λ _. data_blocks_of t (some (contents t h)) none ixs))
+  unfolding with_filter filter_of stands ◌>>=◌
+  filter_by h = go (placed t h) (sealed t h) (ask 12 (filter_formed (contents t h)))
+    where
+      go : (a b c : Checked (Unit {0}))
+          → (a >>= (λ _. b >>= (λ _. c >>= (λ _. pass (some (contents t h)))))) >>= (λ f. data_blocks_of t f none ixs)
+          ≡ (a >>= (λ _. b)) >>= (λ _. c >>= (λ _. data_blocks_of t (some (contents t h)) none ixs))
+      go (pass u) (pass v) (pass w) = refl
+      go (pass u) (pass v) (refuse n) = refl
+      go (pass u) (refuse n) c = refl
+      go (refuse n) b c = refl
+
   pub no_filter : with_filter t none ixs ≡ blocks_at t [] none ixs
   unfolding with_filter filter_of filter_bytes ◌>>=◌
   no_filter = blocks_same t none none ixs
 
-  module _ (offset size : ℕ) where
-    pub filter_out : ends_before (length t) offset size ≡ false → with_filter t (some (record { offset = offset; size = size })) ixs ≡ refuse 8
-    unfolding with_filter filter_of placed ask ◌>>=◌
-    filter_out p = rw p
+  module _ (h : Handle) where
+    pub filter_outside : {n : ℕ} → stands t h ≡ refuse n → with_filter t (some h) ixs ≡ refuse n
+    filter_outside e = filter_by h ∙ then_refused _ e
 
-    module _ (p : ends_before (length t) offset size ≡ true) where
-      pub filter_unsealed : trailer_stands t offset size ≡ false → with_filter t (some (record { offset = offset; size = size })) ixs ≡ refuse 9
-      unfolding with_filter filter_of placed sealed ask ◌>>=◌
-      filter_unsealed q = rw (p, q)
+    module _ (e : stands t h ≡ pass tt) where
+      pub filter_malformed : {s : List ℕ} → s ≡ contents t h → filter_formed s ≡ false → with_filter t (some h) ixs ≡ refuse 12
+      unfolding ask ◌>>=◌
+      filter_malformed same f = filter_by h ∙ rw (e, ← same, f)
 
-      module _ (q : trailer_stands t offset size ≡ true) where
-        pub filter_malformed : filter_formed (take (offset + size - offset) (drop offset t)) ≡ false → with_filter t (some (record { offset = offset; size = size })) ixs ≡ refuse 12
-        unfolding with_filter filter_of placed sealed contents ask ◌>>=◌
-        filter_malformed e = rw (p, q, ← part_between t offset size, e)
-
-        pub filter_stands : filter_formed (take (offset + size - offset) (drop offset t)) ≡ true → with_filter t (some (record { offset = offset; size = size })) ixs ≡ blocks_at t (take (offset + size - offset) (drop offset t)) none ixs
-        unfolding with_filter filter_of placed sealed contents filter_bytes ask ◌>>=◌
-        filter_stands e = rw (p, q, ← part_between t offset size, e) (blocks_same t (some (take (offset + size - offset) (drop offset t))) none ixs)
+      pub filter_stands : {s : List ℕ} → s ≡ contents t h → filter_formed s ≡ true → with_filter t (some h) ixs ≡ blocks_at t s none ixs
+      unfolding ask ◌>>=◌ filter_bytes
+      filter_stands {s} same f = filter_by h ∙ rw (e, ← same, f) (blocks_same t (some s) none ixs)
 
 -- ---- metaindex and index
 
 module _ (t : List ℕ) (m i : Handle) where
   pub meta_refused : {n : ℕ} → sorted_at (kind_of KindCase.Metaindex) t m ≡ refuse n → after_footer t m i ≡ refuse n
-  unfolding after_footer ◌>>=◌ kind_of
-  meta_refused e = rw e
+  unfolding after_footer kind_of
+  meta_refused e = then_refused _ e
 
   module _ {ms : List Entry} (e : sorted_at (kind_of KindCase.Metaindex) t m ≡ pass ms) where
     pub index_refused : {n : ℕ} → sorted_at (kind_of KindCase.Index) t i ≡ refuse n → after_footer t m i ≡ refuse n
@@ -124,11 +129,25 @@ full_by t =
     then_then (sorted_at index_block t ft.index) _ _ ∙ then_same (sorted_at index_block t ft.index) (λ ixs.
     then_then (filter_of t (bloom_handle (pairs_of ms))) _ _)))
 
-module _ (t : List ℕ) where
-  pub footer_refused : {n : ℕ} → footer_answer (footer t) ≡ FooterCase.Refused n → VerdictCase.Refused n ≡ verdict_of (full_check t)
-  unfolding ◌>>=◌
-  footer_refused e = refused (full_by t ∙ ap (λ (c : Checked Footer). c >>= (λ ft. after_footer t ft.metaindex ft.index)) (footer_said (footer t) e))
+-- a refusal that is said of a footer is the footer's
+answer_refused : (c : Checked Footer) {e : Refusal} → footer_answer c ≡ Err e → (n : ℕ) × (c ≡ refuse n) × (e ≡ refusal n)
+unfolding footer_answer
+answer_refused (pass f) p = ok_not_err p
+answer_refused (refuse n) p = (n, refl, sym (err_is p))
 
-  pub footer_read : {a b c d : ℕ} → footer_answer (footer t) ≡ FooterCase.Footer a b c d → after_footer t (record { offset = a; size = b }) (record { offset = c; size = d }) ≡ full_check t
-  unfolding ◌>>=◌
-  footer_read e = sym (full_by t ∙ ap (λ (c : Checked Footer). c >>= (λ ft. after_footer t ft.metaindex ft.index)) (footer_said (footer t) e))
+answer_read : (c : Checked Footer) {f : Declared.Footer} → footer_answer c ≡ Ok f → c ≡ pass (record { metaindex = f.metaindex; index = f.index })
+unfolding footer_answer
+answer_read (pass f) p = let e = ok_is p in rw (← e)
+answer_read (refuse n) p = err_not_ok p
+
+module _ (t : List ℕ) where
+  pub footer_refused : {e : Refusal} → footer_answer (footer t) ≡ Err e → Err e ≡ verdict_of (full_check t)
+  unfolding ◌>>=◌ verdict_of
+  footer_refused e =
+      let r = answer_refused (footer t) e in
+      ap Err r.2 ∙ sym (ap verdict_of (full_by t ∙ ap (λ (c : Checked Footer). c >>= (λ ft. after_footer t ft.metaindex ft.index)) r.1))
+
+  module _ {f : Declared.Footer} (e : footer_answer (footer t) ≡ Ok f) where
+    pub footer_read : after_footer t f.metaindex f.index ≡ full_check t
+    unfolding ◌>>=◌
+    footer_read = sym (full_by t ∙ rw (answer_read (footer t) e))

@@ -1,5 +1,6 @@
 -- What the steps of the full check answer: the order of keys in a block and between blocks, one data block, and all of them.
-use Rattle.std.specs.Prelude.{ℕ, ◌≤◌, ◌≡◌, List, [], ◌∷◌, Bool, true, false, ◌&&◌, ◌||◌, not, take}
+use Rattle.std.specs.Prelude.{ℕ, ◌+◌, ◌≤◌, ◌<◌, ◌≡◌, List, [], ◌∷◌, Bool, true, false, ◌&&◌, ◌||◌, not, length, drop, Result, Ok, Err, Some, None}
+use Rattle.std.specs.Prelude as code
 use Rattle.std.proofs.Math.Option.{Option, none, some}
 use Rattle.codec.specs.Varint.{Handle}
 use Rattle.keys.specs.Order.{user_of, below}
@@ -10,12 +11,14 @@ use Rattle.filters.specs.Filter.{hash}
 use Rattle.filters.specs.FilterBlock.{may_match}
 use Rattle.table.specs.Checked.{Checked, pass, refuse, ◌>>=◌, ask, or_refuse}
 use Rattle.table.specs.Table.{placed, contents, sealed, less_of, sorted_at, bloom_handle, filter_of, Edge, first_follows, handle_of, data_blocks_of}
-use Rattle.full_check.specs.declared.check.DataRead.{DataRead}
-use Rattle.full_check.specs.declared.check.DataRead.TheVariants as DataCase
-use Rattle.full_check.specs.declared.check.Rising.{Rising}
-use Rattle.full_check.specs.declared.check.Rising.TheVariants as RisingCase
-use Rattle.full_check.specs.declared.check.Verdict.{Verdict}
-use Rattle.full_check.specs.declared.check.Verdict.TheVariants as VerdictCase
+use Rattle.table_block.specs.Refusals.{number}
+use Rattle.table_block.specs.declared.refusal.Refusal.{Refusal}
+use Rattle.full_check.specs.declared.check.Edge as Declared
+
+-- the code's answer on a step of the check: what it hands on of what passes, or the refusal
+abbrev pub Judged : {A B : Type 0} → Checked A → (A → B → Type 0) → Result B Refusal → Type 0
+Judged {A} c P (Ok x) = (a : A) × (c ≡ pass a) × P a x
+Judged c P (Err e) = c ≡ refuse (number e)
 
 -- ---- the keys of a block
 
@@ -28,25 +31,25 @@ unfoldable pub rises_from : Kind → Bool → List ℕ → List Pair → Bool
 rises_from kind first k [] = true
 rises_from kind first k (p ∷ ps) = after kind first k p.key && rises_from kind false p.key ps
 
--- the code's answer on a test of the keys of the entries that fill d; where they pass, the last key is the first n bytes of the buffer k
-abbrev pub Tested : (List Pair → Bool) → List ℕ → Rising → List ℕ → Type 0
-Tested test d (RisingCase.Yes n) k =
-    (n ≤ 1032) × ((es : List Entry) → read_from d 0 [] ≡ some es → (test (pairs_of es) ≡ true) × (last_key_of [] (pairs_of es) ≡ take n k))
-Tested test d RisingCase.No k = (es : List Entry) → read_from d 0 [] ≡ some es → test (pairs_of es) ≡ false
+-- the code's answer on a test of the keys of the entries that fill d: where they pass, the last key
+abbrev pub Tested : (List Pair → Bool) → List ℕ → code.Option (List ℕ) → Type 0
+Tested test d (Some k) = (es : List Entry) → read_from d 0 [] ≡ some es → (test (pairs_of es) ≡ true) × (last_key_of [] (pairs_of es) ≡ k)
+Tested test d None = (es : List Entry) → read_from d 0 [] ≡ some es → test (pairs_of es) ≡ false
 
--- ---- metaindex and index
+-- ---- a block in the table
 
--- the code's answer on them
-abbrev pub Judged : Checked (List Entry) → Verdict → Type 0
-Judged c VerdictCase.Pass = (es : List Entry) × (c ≡ pass es)
-Judged c (VerdictCase.Refused n) = c ≡ refuse n
+-- 8, 9, of the block at a handle
+unfoldable pub stands : List ℕ → Handle → Checked (Unit {0})
+stands t h = do
+  _ ← placed t h
+  sealed t h
 
 -- ---- data blocks
 
--- what the block before left, its index key and its last key; the first block has none before it
-unfoldable pub edge_of : Bool → List ℕ → List ℕ → Option Edge
-edge_of true i l = none
-edge_of false i l = some (record { index_key = i; last_key = l })
+-- what the block before left; the first block has none before it
+unfoldable pub edge_of : code.Option Declared.Edge → Option Edge
+edge_of None = none
+edge_of (Some e) = some (record { index_key = e.index_key; last_key = e.last_key })
 
 -- the three tests of 11
 unfoldable pub ordered : Option Edge → List ℕ → List Pair → Bool
@@ -75,11 +78,6 @@ data_at t filter before ix h = do
   _ ← placed t h
   _ ← sealed t h
   data_in filter h.offset before ix (contents t h)
-
--- the code's answer on it; where it passes, its last key is the first n bytes of the buffer k
-abbrev pub DataJudged : Checked (List Pair) → DataRead → List ℕ → Type 0
-DataJudged c (DataCase.Pass n) k = (n ≤ 1032) × ((ps : List Pair) × (c ≡ pass ps) × (last_key_of [] ps ≡ take n k))
-DataJudged c (DataCase.Refused n) k = c ≡ refuse n
 
 -- each index entry's block
 unfoldable pub blocks_at : List ℕ → List ℕ → Option Edge → List Pair → Checked (Unit {0})

@@ -1,212 +1,166 @@
-// The full check of a table, the first failure decides: footer, metaindex, index, filter, and then each data block.
-ghost use Rattle.std.specs.Prelude.{◌≡◌, List, [], ◌≤◌, length, take};
+// The full check of a table: footer, metaindex, index, filter, and then each data block. The first failure decides.
+ghost use Rattle.std.specs.Prelude.{◌≡◌, List, []};
 ghost use Rattle.std.proofs.Math.Option.{none, some};
 ghost use Rattle.std.proofs.Math.Dec.{compare_is_eq};
+ghost use Rattle.std.specs.Option.{option_copied};
 ghost use Rattle.keys.specs.Order.{user_of, point_of, by_point};
-ghost use Rattle.blocks.specs.Block.{Entry, pairs_of};
+ghost use Rattle.blocks.specs.Block.{Entry, last_key_of, pairs_of};
 ghost use Rattle.blocks.specs.Formed.{all, rises};
 ghost use Rattle.blocks.specs.Search.{readable};
 ghost use Rattle.block_reader.specs.Said.{kind_of};
 ghost use Rattle.block_reader.specs.Steps.{read_from};
 ghost use Rattle.filters.specs.Filter.{hash};
 ghost use Rattle.filters.specs.FilterBlock.{may_match};
-ghost use Rattle.table.specs.Table.{follows, first_follows, bloom_handle, handle_of, full_check, less_of, sorted_in, sorted_at};
+ghost use Rattle.table.specs.Table.{follows, first_follows, bloom_handle, handle_of, full_check, less_of, contents, sealed, sorted_in, sorted_at};
 ghost use Rattle.full_check.specs.Answers.{verdict_of};
-ghost use Rattle.full_check.specs.Steps.{after, Tested, edge_of, ordered, lets, Judged, data_in, data_at, DataJudged, blocks_at, with_filter, after_footer};
+ghost use Rattle.full_check.specs.Steps.{Tested, Judged, stands, edge_of, ordered, lets, data_in, data_at, blocks_at, with_filter};
 
-use block_reader::block::{EntryRead, Kind, RowsRead};
-use codec::blockhandle::OneHandle;
-use table_block::footer::FooterRead;
+use block_reader::block::{Kind, LastKey, layout};
+use bloom::filter::bloom_hash;
+use checksum::trailer::trailer_stands;
+use codec::blockhandle::{BlockHandle, one_handle};
+use keys::cmp::cmp;
+use keys::key_types::{key_below, user_key};
+use table_block::footer;
+use table_block::refusal::Refusal;
+use table_block::table_block::bloom_handle;
 
-// The full check's answer: that the table passes, or the refusal's number.
-#[derive(Clone, Copy)]
-pub enum Verdict {
-    Pass,
-    Refused(u32),
-}
-
-// Whether keys are in order; if so, how many bytes the last one has.
-#[derive(Clone, Copy)]
-enum Rising {
-    Yes(usize),
-    No,
-}
-
-// A data block that passes, with how many bytes its last key has, or the refusal's number.
-#[derive(Clone, Copy)]
-enum DataRead {
-    Pass(usize),
-    Refused(u32),
-}
-
-// Where a block stands.
-#[derive(Clone, Copy)]
-struct Place {
-    offset: usize,
-    size: usize,
+// What a block leaves for the test of the next: its index key and its last key.
+#[derive(Drop)]
+struct Edge {
+    index_key: LastKey,
+    last_key: LastKey,
 }
 
 // The part of a block that its entries fill; none of it without a layout.
 fn entries(s: &[u8]) -> &[u8]
     ensures { (es : List Entry) → readable s.now ≡ some es → read_from result.now 0 [] ≡ some es }
 {
-    match block_reader::block::layout(s) {
-        RowsRead::Bad => &s[..0],
-        RowsRead::Rows { end, count: _ } => &s[..end],
+    match layout(s) {
+        None => &s[..0],
+        Some(rows) => &s[..rows.end],
     }
+}
+
+// The bytes of the block at a handle, if its trailer stands.
+fn sealed(table: &[u8], handle: BlockHandle) -> Result<&[u8], Refusal>
+    ensures { Judged (sealed table.now handle) (λ _ s. s.now ≡ contents table.now handle) result }
+{
+    if !trailer_stands(table, handle.offset, handle.size) {
+        return Err(Refusal::Checksum);
+    }
+    let end = handle.offset + handle.size;
+    Ok(&table[handle.offset..end])
+}
+
+// The same, if the block ends before the footer.
+fn placed(table: &[u8], handle: BlockHandle) -> Result<&[u8], Refusal>
+    ensures { Judged (stands table.now handle) (λ _ s. s.now ≡ contents table.now handle) result }
+{
+    if !footer::placed(table.len(), handle) {
+        return Err(Refusal::Outside);
+    }
+    sealed(table, handle)
 }
 
 // Whether two internal keys are equal, kind ignored.
 fn same_point(a: &[u8], b: &[u8]) -> bool
     ensures { result ≡ compare_is_eq (by_point (point_of a.now) (point_of b.now)) }
 {
-    if keys::key_types::key_below(a, b) {
-        return false;
-    }
-    !keys::key_types::key_below(b, a)
+    !key_below(a, b) && !key_below(b, a)
 }
 
-// Whether b may come after a in a block of a kind; the first key may always come.
-fn comes_after(kind: Kind, first: bool, a: &[u8], b: &[u8]) -> bool
-    ensures { result ≡ after (kind_of kind) first a.now b.now }
+// Whether a comes before b in a block of a kind.
+fn comes_before(kind: Kind, a: &[u8], b: &[u8]) -> bool
+    ensures { result ≡ less_of (kind_of kind) a.now b.now }
 {
-    if first {
-        return true;
-    }
     match kind {
-        Kind::Data => keys::key_types::key_below(a, b),
-        Kind::Index => keys::key_types::key_below(a, b),
-        Kind::Metaindex => keys::cmp::is_less(keys::cmp::cmp(a, b)),
+        Kind::Data | Kind::Index => key_below(a, b),
+        Kind::Metaindex => cmp(a, b).is_lt(),
     }
 }
 
-// Whether the keys of the entries that fill d rise. The last of them then stands at the front of last.
-fn keys_rise(d: &[u8], kind: Kind, last: &mut [u8]) -> Rising
-    requires { length last.old ≡ 1032 }
-    ensures { Tested (rises (less_of (kind_of kind))) d.now result last.new }
+// The last key of the entries that fill d, if their keys rise; of no entries the key is empty.
+fn keys_rise(d: &[u8], kind: Kind) -> Option<LastKey>
+    ensures { Tested (rises (less_of (kind_of kind))) d.now result }
 {
-    let mut key = [0u8; 1032];
-    let mut len: usize = 0;
+    let mut key = LastKey::new();
+    let mut before = LastKey::new();
     let mut at: usize = 0;
     while at < d.len() {
-        match block_reader::block::read_entry(&d[at..], &mut key, len) {
-            EntryRead::Bad => {
-                return Rising::No;
-            }
-            EntryRead::Entry {
-                shared: _,
-                key_len,
-                value_at,
-                value_len,
-            } => {
-                if comes_after(kind, at == 0, &last[..len], &key[..key_len]) {
-                    codec::put::put_bytes(last, 0, &key[..key_len]);
-                    len = key_len;
-                    at = at + value_at + value_len;
-                } else {
-                    return Rising::No;
-                }
-            }
+        before.copy_from(&key);
+        let read = key.read(d, at)?;
+        if at > 0 && !comes_before(kind, before.as_slice(), key.as_slice()) {
+            return None;
         }
+        at = read.value_at + read.value_len;
     }
-    Rising::Yes(len)
+    Some(key)
 }
 
-// 10 and 11 of the bytes of the metaindex or the index.
-fn sorted_in(s: &[u8], kind: Kind) -> Verdict
-    ensures { Judged (sorted_in (kind_of kind) s.now) result }
+// Whether the bytes of the metaindex or the index are well formed, with keys that rise.
+fn sorted_in(s: &[u8], kind: Kind) -> Result<(), Refusal>
+    ensures { Judged (sorted_in (kind_of kind) s.now) (λ es _. readable s.now ≡ some es) result }
 {
-    if block_reader::block::is_formed(s, kind) {} else {
-        return Verdict::Refused(10);
+    if !block_reader::block::is_formed(s, kind) {
+        return Err(Refusal::Malformed);
     }
-    let mut last = [0u8; 1032];
-    match keys_rise(entries(s), kind, &mut last) {
-        Rising::No => Verdict::Refused(11),
-        Rising::Yes(_) => Verdict::Pass,
+    match keys_rise(entries(s), kind) {
+        None => Err(Refusal::Unordered),
+        Some(_) => Ok(()),
     }
 }
 
-// The metaindex or the index: 9, 10, 11.
-fn sorted(table: &[u8], offset: usize, size: usize, kind: Kind) -> Verdict
-    ensures { Judged (sorted_at (kind_of kind) table.now (record { offset = offset; size = size })) result }
+// The bytes of the metaindex or the index, if they pass.
+fn sorted(table: &[u8], handle: BlockHandle, kind: Kind) -> Result<&[u8], Refusal>
+    ensures { Judged (sorted_at (kind_of kind) table.now handle) (λ es s. readable s.now ≡ some es) result }
 {
-    if checksum::trailer::trailer_stands(table, offset, size) {} else {
-        return Verdict::Refused(9);
-    }
-    let end = offset + size;
-    sorted_in(&table[offset..end], kind)
+    let s = sealed(table, handle)?;
+    sorted_in(s, kind)?;
+    Ok(s)
 }
 
-// Whether a block's first key may follow the block before it, which left its index key and its last key.
-fn key_follows(first: bool, before: &[u8], last: &[u8], key: &[u8]) -> bool
-    ensures { result ≡ follows (edge_of first before.now last.now) key.now }
+// Whether a block's first key may follow the block before it; the first block has none before it.
+fn key_follows(before: Option<&Edge>, key: &[u8]) -> bool
+    ensures { result ≡ follows (edge_of (option_copied before.entry)) key.now }
 {
-    if first {
+    let Some(edge) = before else {
         return true;
-    }
-    if keys::key_types::key_below(last, key) {} else {
-        return false;
-    }
-    if keys::key_types::key_below(before, key) {} else {
-        return false;
-    }
-    if same_point(before, last) {
-        return true;
-    }
-    keys::cmp::is_less(keys::cmp::cmp(
-        keys::key_types::user_key(before),
-        keys::key_types::user_key(key),
-    ))
+    };
+    let index_key = edge.index_key.as_slice();
+    let last_key = edge.last_key.as_slice();
+    key_below(last_key, key)
+        && key_below(index_key, key)
+        && (same_point(index_key, last_key) || cmp(user_key(index_key), user_key(key)).is_lt())
 }
 
 // The same of the first of the entries that fill d.
-fn block_follows(d: &[u8], first: bool, before: &[u8], last: &[u8]) -> bool
-    ensures { (es : List Entry) → read_from d.now 0 [] ≡ some es → result ≡ first_follows (edge_of first before.now last.now) (pairs_of es) }
+fn block_follows(d: &[u8], before: Option<&Edge>) -> bool
+    ensures { (es : List Entry) → read_from d.now 0 [] ≡ some es → result ≡ first_follows (edge_of (option_copied before.entry)) (pairs_of es) }
 {
-    let mut key = [0u8; 1032];
-    match block_reader::block::read_entry(d, &mut key, 0) {
-        EntryRead::Bad => false,
-        EntryRead::Entry {
-            shared: _,
-            key_len,
-            value_at: _,
-            value_len: _,
-        } => key_follows(first, before, last, &key[..key_len]),
-    }
+    let mut key = LastKey::new();
+    key.read(d, 0).is_some() && key_follows(before, key.as_slice())
 }
 
-// 11 of the entries that fill d, the last key of the block before at the front of last. Then their last key stands there.
-fn in_order(
-    d: &[u8],
-    first: bool,
-    before: &[u8],
-    last: &mut [u8],
-    last_len: usize,
-    bound: &[u8],
-) -> Rising
-    requires { (length last.old ≡ 1032) × (last_len ≤ 1032) }
-    ensures { Tested (ordered (edge_of first before.now (take last_len last.old)) bound.now) d.now result last.new }
+// The last key of the entries that fill d, if their keys rise, the first may follow the block before it, and none is above a bound.
+fn in_order(d: &[u8], before: Option<&Edge>, bound: &[u8]) -> Option<LastKey>
+    ensures { Tested (ordered (edge_of (option_copied before.entry)) bound.now) d.now result }
 {
-    if block_follows(d, first, before, &last[..last_len]) {} else {
-        return Rising::No;
+    if !block_follows(d, before) {
+        return None;
     }
-    match keys_rise(d, Kind::Data, last) {
-        Rising::No => Rising::No,
-        Rising::Yes(n) => {
-            if keys::key_types::key_below(bound, &last[..n]) {
-                Rising::No
-            } else {
-                Rising::Yes(n)
-            }
-        }
+    let last = keys_rise(d, Kind::Data)?;
+    if key_below(bound, last.as_slice()) {
+        return None;
     }
+    Some(last)
 }
 
 // Whether a filter block lets the data block at an offset hold a key.
 fn may_hold(filter: &[u8], offset: usize, key: &[u8]) -> bool
     ensures { result ≡ may_match filter.now offset (hash (user_of key.now)) }
 {
-    let h = bloom::filter::bloom_hash(keys::key_types::user_key(key));
+    let h = bloom_hash(user_key(key));
     filter_block::filter_block::may_match(filter, offset, h)
 }
 
@@ -214,224 +168,112 @@ fn may_hold(filter: &[u8], offset: usize, key: &[u8]) -> bool
 fn all_held(d: &[u8], filter: &[u8], offset: usize) -> bool
     ensures { (es : List Entry) → read_from d.now 0 [] ≡ some es → result ≡ all (lets filter.now offset) (pairs_of es) }
 {
-    let mut key = [0u8; 1032];
-    let mut len: usize = 0;
+    let mut key = LastKey::new();
     let mut at: usize = 0;
     while at < d.len() {
-        match block_reader::block::read_entry(&d[at..], &mut key, len) {
-            EntryRead::Bad => {
-                return false;
-            }
-            EntryRead::Entry {
-                shared: _,
-                key_len,
-                value_at,
-                value_len,
-            } => {
-                if may_hold(filter, offset, &key[..key_len]) {
-                    len = key_len;
-                    at = at + value_at + value_len;
-                } else {
-                    return false;
-                }
-            }
+        let Some(read) = key.read(d, at) else {
+            return false;
+        };
+        if !may_hold(filter, offset, key.as_slice()) {
+            return false;
         }
+        at = read.value_at + read.value_len;
     }
     true
 }
 
-// 10, 11 and 12 of the bytes of a data block, which stands at an offset.
+// The last key of the data block at an offset, if its bytes pass.
 fn data_in(
     s: &[u8],
     filter: &[u8],
     offset: usize,
-    first: bool,
-    before: &[u8],
-    last: &mut [u8],
-    last_len: usize,
+    before: Option<&Edge>,
     bound: &[u8],
-) -> DataRead
-    requires { (length last.old ≡ 1032) × (last_len ≤ 1032) }
-    ensures { DataJudged (data_in filter.now offset (edge_of first before.now (take last_len last.old)) bound.now s.now) result last.new }
+) -> Result<LastKey, Refusal>
+    ensures { Judged (data_in filter.now offset (edge_of (option_copied before.entry)) bound.now s.now) (λ ps k. last_key_of [] ps ≡ k) result }
 {
-    if block_reader::block::is_formed(s, Kind::Data) {} else {
-        return DataRead::Refused(10);
+    if !block_reader::block::is_formed(s, Kind::Data) {
+        return Err(Refusal::Malformed);
     }
     let d = entries(s);
-    match in_order(d, first, before, last, last_len, bound) {
-        Rising::No => DataRead::Refused(11),
-        Rising::Yes(n) => {
-            if all_held(d, filter, offset) {
-                DataRead::Pass(n)
-            } else {
-                DataRead::Refused(12)
-            }
-        }
+    let last = in_order(d, before, bound).ok_or(Refusal::Unordered)?;
+    if !all_held(d, filter, offset) {
+        return Err(Refusal::Filter);
     }
+    Ok(last)
 }
 
-// A data block: 8, 9, 10, 11, 12.
+// The last key of the data block at a handle, if it passes.
 fn data_at(
     table: &[u8],
     filter: &[u8],
-    first: bool,
-    before: &[u8],
-    last: &mut [u8],
-    last_len: usize,
+    before: Option<&Edge>,
     bound: &[u8],
-    offset: usize,
-    size: usize,
-) -> DataRead
-    requires { (length last.old ≡ 1032) × (last_len ≤ 1032) }
-    ensures { DataJudged (data_at table.now filter.now (edge_of first before.now (take last_len last.old)) bound.now (record { offset = offset; size = size })) result last.new }
+    handle: BlockHandle,
+) -> Result<LastKey, Refusal>
+    ensures { Judged (data_at table.now filter.now (edge_of (option_copied before.entry)) bound.now handle) (λ ps k. last_key_of [] ps ≡ k) result }
 {
-    if table_block::footer::placed(table.len(), offset, size) {} else {
-        return DataRead::Refused(8);
-    }
-    if checksum::trailer::trailer_stands(table, offset, size) {} else {
-        return DataRead::Refused(9);
-    }
-    let end = offset + size;
-    data_in(
-        &table[offset..end],
-        filter,
-        offset,
-        first,
-        before,
-        last,
-        last_len,
-        bound,
-    )
+    let s = placed(table, handle)?;
+    data_in(s, filter, handle.offset, before, bound)
 }
 
 // The handle of an index value.
-#[tactic(auto, using(crate::proofs::KeyLaws::handle_bad, crate::proofs::KeyLaws::handle_is))]
-fn handle_of(value: &[u8]) -> Place
-    ensures { record { offset = result.offset; size = result.size } ≡ handle_of value.now }
+fn handle_of(value: &[u8]) -> BlockHandle
+    ensures { result ≡ handle_of value.now }
 {
-    match codec::blockhandle::one_handle(value) {
-        OneHandle::None => Place { offset: 0, size: 0 },
-        OneHandle::Handle { offset, size } => Place { offset, size },
-    }
+    one_handle(value).unwrap_or(BlockHandle { offset: 0, size: 0 })
 }
 
-// The data blocks that the index entries that fill d name.
-fn blocks_in(table: &[u8], filter: &[u8], d: &[u8]) -> Verdict
+// The data blocks that the index entries that fill d name, one after the other.
+fn blocks_in(table: &[u8], filter: &[u8], d: &[u8]) -> Result<(), Refusal>
     ensures { (es : List Entry) → read_from d.now 0 [] ≡ some es → result ≡ verdict_of (blocks_at table.now filter.now none (pairs_of es)) }
 {
-    let mut key = [0u8; 1032];
-    let mut before = [0u8; 1032];
-    let mut len: usize = 0;
-    let mut last = [0u8; 1032];
-    let mut last_len: usize = 0;
+    let mut key = LastKey::new();
+    let mut before: Option<Edge> = None;
     let mut at: usize = 0;
     while at < d.len() {
-        match block_reader::block::read_entry(&d[at..], &mut key, len) {
-            EntryRead::Bad => {
-                return Verdict::Refused(10);
-            }
-            EntryRead::Entry {
-                shared: _,
-                key_len,
-                value_at,
-                value_len,
-            } => {
-                let from = at + value_at;
-                let next = from + value_len;
-                let h = handle_of(&d[from..next]);
-                match data_at(
-                    table,
-                    filter,
-                    at == 0,
-                    &before[..len],
-                    &mut last,
-                    last_len,
-                    &key[..key_len],
-                    h.offset,
-                    h.size,
-                ) {
-                    DataRead::Refused(n) => {
-                        return Verdict::Refused(n);
-                    }
-                    DataRead::Pass(n) => {
-                        codec::put::put_bytes(&mut before, 0, &key[..key_len]);
-                        len = key_len;
-                        last_len = n;
-                        at = next;
-                    }
-                }
-            }
-        }
+        let read = key.read(d, at).ok_or(Refusal::Malformed)?;
+        let next = read.value_at + read.value_len;
+        let handle = handle_of(&d[read.value_at..next]);
+        let last_key = data_at(table, filter, before.as_ref(), key.as_slice(), handle)?;
+        let mut index_key = LastKey::new();
+        index_key.copy_from(&key);
+        before = Some(Edge {
+            index_key,
+            last_key,
+        });
+        at = next;
     }
-    Verdict::Pass
+    Ok(())
 }
 
-// The filter block, 8, 9, 12, and then those data blocks.
-fn filtered(table: &[u8], d: &[u8], offset: usize, size: usize) -> Verdict
-    ensures { (es : List Entry) → read_from d.now 0 [] ≡ some es → result ≡ verdict_of (with_filter table.now (some (record { offset = offset; size = size })) (pairs_of es)) }
+// The filter block at a handle, and then those data blocks.
+fn filtered(table: &[u8], d: &[u8], handle: BlockHandle) -> Result<(), Refusal>
+    ensures { (es : List Entry) → read_from d.now 0 [] ≡ some es → result ≡ verdict_of (with_filter table.now (some handle) (pairs_of es)) }
 {
-    if table_block::footer::placed(table.len(), offset, size) {} else {
-        return Verdict::Refused(8);
-    }
-    if checksum::trailer::trailer_stands(table, offset, size) {} else {
-        return Verdict::Refused(9);
-    }
-    let end = offset + size;
-    let filter = &table[offset..end];
-    if filter_block::filter_block::is_formed(filter) {} else {
-        return Verdict::Refused(12);
+    let filter = placed(table, handle)?;
+    if !filter_block::filter_block::is_formed(filter) {
+        return Err(Refusal::Filter);
     }
     blocks_in(table, filter, d)
 }
 
 // The filter that a metaindex names, and then those data blocks. Without a filter its bytes are none, and they deny nothing.
-fn rest(table: &[u8], metaindex: &[u8], d: &[u8]) -> Verdict
+fn rest(table: &[u8], metaindex: &[u8], d: &[u8]) -> Result<(), Refusal>
     ensures { (ms es : List Entry) → readable metaindex.now ≡ some ms → read_from d.now 0 [] ≡ some es → result ≡ verdict_of (with_filter table.now (bloom_handle (pairs_of ms)) (pairs_of es)) }
 {
-    match table_block::table_block::bloom_handle(metaindex) {
-        OneHandle::None => blocks_in(table, b"", d),
-        OneHandle::Handle { offset, size } => filtered(table, d, offset, size),
-    }
-}
-
-// What follows the footer: metaindex and index, the filter, and the data blocks.
-fn after_footer(
-    table: &[u8],
-    meta_offset: usize,
-    meta_size: usize,
-    index_offset: usize,
-    index_size: usize,
-) -> Verdict
-    ensures { result ≡ verdict_of (after_footer table.now (record { offset = meta_offset; size = meta_size }) (record { offset = index_offset; size = index_size })) }
-{
-    match sorted(table, meta_offset, meta_size, Kind::Metaindex) {
-        Verdict::Refused(n) => Verdict::Refused(n),
-        Verdict::Pass => match sorted(table, index_offset, index_size, Kind::Index) {
-            Verdict::Refused(n) => Verdict::Refused(n),
-            Verdict::Pass => {
-                let meta_end = meta_offset + meta_size;
-                let index_end = index_offset + index_size;
-                rest(
-                    table,
-                    &table[meta_offset..meta_end],
-                    entries(&table[index_offset..index_end]),
-                )
-            }
-        },
+    match bloom_handle(metaindex) {
+        None => blocks_in(table, b"", d),
+        Some(handle) => filtered(table, d, handle),
     }
 }
 
 // The full check.
-pub fn check(table: &[u8]) -> Verdict
+pub fn check(table: &[u8]) -> Result<(), Refusal>
     ensures { result ≡ verdict_of (full_check table.now) }
 {
-    match table_block::footer::decode(table) {
-        FooterRead::Refused(n) => Verdict::Refused(n),
-        FooterRead::Footer {
-            meta_offset,
-            meta_size,
-            index_offset,
-            index_size,
-        } => after_footer(table, meta_offset, meta_size, index_offset, index_size),
-    }
+    let footer = footer::decode(table)?;
+    let metaindex = sorted(table, footer.metaindex, Kind::Metaindex)?;
+    let index = sorted(table, footer.index, Kind::Index)?;
+    rest(table, metaindex, entries(index))
 }

@@ -82,7 +82,7 @@ big_order (x ∷ a) (y ∷ b) l h k =
 
 -- ---- the order by parts
 
-then_assoc : (o p q : Ordering) → and_then (and_then o p) q ≡ and_then o (and_then p q)
+pub then_assoc : (o p q : Ordering) → and_then (and_then o p) q ≡ and_then o (and_then p q)
 then_assoc Ordering.lt p q = refl
 then_assoc Ordering.eq p q = refl
 then_assoc Ordering.gt p q = refl
@@ -96,6 +96,10 @@ bytes_parts (suc w) (x ∷ a) [] h k = absurd (omega arith)
 bytes_parts (suc w) (x ∷ a) (y ∷ b) h k =
     rw (bytes_parts w a b (omega arith) (omega arith))
     (sym (then_assoc (compare x y) (by_bytes (take w a) (take w b)) (by_bytes (drop w a) (drop w b))))
+
+-- the same up to a place, by another name
+pub same_at : (a b : List ℕ) {j k : ℕ} → j ≡ k → take j a ≡ take j b → take k a ≡ take k b
+same_at a b e same = rw (← e) same
 
 -- an answer other than equal decides
 then_apart : (o p : Ordering) → (o ≡ Ordering.eq → ⊥) → and_then o p ≡ o

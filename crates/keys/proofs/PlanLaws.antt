@@ -1,26 +1,30 @@
 -- Separators and successors as the code plans them.
-use Prim.Native.Nat.{ℕ, zero, suc, ◌+◌, ◌-◌, ◌≤◌, ◌<◌, min, compare, Ordering}
+use Prim.Native.Nat.{ℕ, zero, suc, ◌+◌, ◌-◌, ◌≤◌, ◌<◌, compare, Ordering}
 use mathlib.Core.Path.{◌≡◌, refl, sym, ap, ap₂, ◌∙◌}
-use mathlib.Core.List.{List, [], ◌∷◌, ◌++◌, append_assoc}
+use mathlib.Core.List.{List, [], ◌∷◌, ◌++◌}
 use mathlib.Core.Bool.{Bool, true, false, ◌&&◌}
-use mathlib.Core.Option.{Option, none, some, map}
+use mathlib.Core.Option.{none, some}
+use native.Mathlib.Nat.{suc-add}
 use native.Mathlib.Numerals.{add-one}
 use native.Mathlib.Omega.{arith}
 use lib.Dec.{ltb}
-use lib.ListN.{length, take, drop, get_or, length-append, length-take, length-drop}
-use lib.Seq.{take-append_seam, drop-append_seam, drop-cons, take-suc, split_at, take-length, drop-length}
+use lib.ListN.{length, take, drop, get_or, length-append, length-take}
+use lib.Seq.{take-append_seam, drop-append_seam, drop-cons, split_at}
 use borrow.Author.Tests.{lt-ltb, le-ltb, eq-eqb, ne_eqb}
 use Rattle.codec.specs.Bytes.{part}
-use Rattle.codec.proofs.Prelude.{split}
 use Rattle.codec.proofs.BytesLaws.{part_length, part_rest}
-use Rattle.keys.specs.declared.cmp.Found.{Found}
-use Rattle.keys.specs.declared.cmp.Found.TheVariants.{At, Nothing}
+use Rattle.std.specs.Prelude.{None, Some, MatchOption}
+use Rattle.std.specs.Prelude as maybe
+use Rattle.std.specs.declared.cmp.Ordering as OrderingEnum
+use Rattle.std.specs.declared.cmp.Ordering.TheVariants.{Equal}
 use Rattle.keys.specs.declared.cmp.Sep.{Sep}
 use Rattle.keys.specs.declared.cmp.Sep.TheVariants.{Whole, Longer, Raised}
 use Rattle.keys.specs.Order.{and_then, is_less, by_bytes, bytes_below, user_of, raised_start, raised_last, shortest_sep, user_sep, last_tag, separator, short_succ}
-use Rattle.keys.specs.Plan.{raised, Raisable, RaisesFirst, RaisesLast, sep_bytes, SepFits, Planned}
-use Rattle.keys.proofs.OrderLaws.{compare_lt, compare_gt, compare_is, compare_same}
-use Rattle.keys.proofs.CompareLaws.{bytes_parts}
+use Rattle.keys.specs.Plan.{raised, Raisable, RaisesFirst, RaisesLast, sep_bytes, SepFits, Planned, FirstLow}
+use Rattle.keys.proofs.OrderLaws.{compare_lt, compare_same}
+use Rattle.keys.specs.Answers.{order_answer}
+use Rattle.keys.proofs.AnswerLaws.{then_equal, then_other}
+use Rattle.keys.proofs.CompareLaws.{bytes_parts, then_assoc}
 
 -- ---- front, a byte and back against b
 
@@ -38,32 +42,29 @@ below_front [] r (y ∷ b) h = absurd (omega arith)
 below_front (x ∷ f) r [] h = refl
 below_front (x ∷ f) r (y ∷ b) h = is_less_then (compare x y) (by_bytes f b) (by_bytes (f ++ r) b) (below_front f r b (omega arith))
 
+-- b goes on behind the front: the front and then the byte decide, or where they are equal the back
 module _ (f : List ℕ) (x : ℕ) (r b : List ℕ) (h : length f < length b) where
-  -- the front decides, then the byte, then the back
-  joined_order : by_bytes (f ++ (x ∷ r)) b ≡ and_then (by_bytes f (take (length f) b)) (and_then (compare x (get_or b (length f) 0)) (by_bytes r (drop (length f + 1) b)))
-  unfolding by_bytes
+  fronts : Ordering
+  fronts = and_then (by_bytes f (take (length f) b)) (compare x (get_or b (length f) 0))
+
+  backs : Ordering
+  backs = by_bytes r (drop (length f + 1) b)
+
+  joined_order : by_bytes (f ++ (x ∷ r)) b ≡ and_then fronts backs
+  unfolding by_bytes fronts backs
   joined_order =
       bytes_parts (length f) (f ++ (x ∷ r)) b (omega (arith, length-append f (x ∷ r))) (omega arith)
       ∙ rw (take-append_seam f (x ∷ r), drop-append_seam f (x ∷ r), drop-cons b (length f) 0 h, add-one (length f))
+      (sym (then_assoc (by_bytes f (take (length f) b)) (compare x (get_or b (length f) 0)) (by_bytes r (drop (suc (length f)) b))))
 
-  pub joined_front : {o : Ordering} {t : Bool} → by_bytes f (take (length f) b) ≡ o
-      → t ≡ is_less (and_then o (and_then (compare x (get_or b (length f) 0)) (by_bytes r (drop (length f + 1) b)))) → t ≡ bytes_below (f ++ (x ∷ r)) b
-  unfolding bytes_below
-  joined_front e p = p ∙ sym (rw (joined_order, e))
+  module _ {s : OrderingEnum.Ordering} (e : s ≡ order_answer (and_then (by_bytes f (take (length f) b)) (compare x (get_or b (length f) 0)))) where
+    pub joined_back : s ≡ Equal → is_less (by_bytes r (drop (length f + 1) b)) ≡ bytes_below (f ++ (x ∷ r)) b
+    unfolding bytes_below fronts backs
+    joined_back q = ap is_less (then_equal fronts backs e q ∙ sym joined_order)
 
-  module _ (e : by_bytes f (take (length f) b) ≡ Ordering.eq) where
-    pub joined_back : x ≡ get_or b (length f) 0 → bytes_below r (drop (length f + 1) b) ≡ bytes_below (f ++ (x ∷ r)) b
-    unfolding bytes_below
-    joined_back q = joined_front e (rw (compare_is x (get_or b (length f) 0) q))
-
-    pub joined_byte : (x ≡ get_or b (length f) 0 → ⊥) → ltb x (get_or b (length f) 0) ≡ bytes_below (f ++ (x ∷ r)) b
-    joined_byte d = joined_front e (sym (apart x (get_or b (length f) 0) (by_bytes r (drop (length f + 1) b)) d))
-      where
-        apart : (x y : ℕ) (p : Ordering) → (x ≡ y → ⊥) → is_less (and_then (compare x y) p) ≡ ltb x y
-        apart x y p d =
-            split x y
-            (λ l. rw (compare_lt x y l, lt-ltb x y l))
-            (λ l. rw (compare_gt x y (omega (arith, d)), le-ltb x y l))
+    pub joined_front : (s ≡ Equal → ⊥) → is_less (and_then (by_bytes f (take (length f) b)) (compare x (get_or b (length f) 0))) ≡ bytes_below (f ++ (x ∷ r)) b
+    unfolding bytes_below fronts backs
+    joined_front d = ap is_less (then_other fronts backs e d ∙ sym joined_order)
 
 -- ---- a byte raised
 
@@ -89,110 +90,89 @@ pub raised_tagged : (a : List ℕ) (i n : ℕ) → Raisable a i n → length (ra
 unfolding last_tag
 raised_tagged a i n f = omega (arith, length-append (raised a i n) last_tag, raised_length a i n f)
 
+raised_first_byte : (x : ℕ) (a : List ℕ) → raised (x ∷ a) 0 (length (x ∷ a)) ≡ (x + 1) ∷ a
+unfolding raised part
+raised_first_byte x a = ap (λ (l : List ℕ). (x + 1) ∷ l) (part_rest (x ∷ a) 1)
+
+raised_cons : (x : ℕ) (a : List ℕ) (i n : ℕ) → raised (x ∷ a) (suc i) (suc n) ≡ x ∷ raised a i n
+unfolding raised part
+raised_cons x a i n =
+    let e : suc n - suc (i + 1) ≡ n - (i + 1) = omega arith in
+    rw (suc-add, e)
+
 -- ---- the first place to raise
 
--- what comes after a start
-abbrev pub after : List ℕ → Option (List ℕ) → Option (List ℕ)
-after p none = none
-after p (some r) = some (p ++ r)
+start_first : (a b : List ℕ) (n : ℕ) → n < length a → n < length b → get_or a n 0 + 1 < get_or b n 0
+    → ((k : ℕ) → k < n → get_or b k 0 ≤ get_or a k 0 + 1) → raised_start a b ≡ some (raised a n (n + 1))
+unfolding raised_start
+start_first [] b n ha hb l h = absurd (omega arith)
+start_first (x ∷ a) [] n ha hb l h = absurd (omega arith)
+start_first (x ∷ a) (y ∷ b) zero ha hb l h = unfold raised part in rw (lt-ltb (x + 1) y l, raised_start)
+start_first (x ∷ a) (y ∷ b) (suc n) ha hb l h =
+    let r = start_first a b n (omega arith) (omega arith) l (λ k q. h (suc k) (omega arith)) in
+    rw (le-ltb (x + 1) y (h 0 (omega arith)), r, suc-add, raised_cons x a n (n + 1), raised_start)
 
-after_cons : (p : List ℕ) (x : ℕ) (o : Option (List ℕ)) → after p (map (λ (r : List ℕ). x ∷ r) o) ≡ after (p ++ (x ∷ [])) o
-after_cons p x none = refl
-after_cons p x (some r) = ap some (sym (append_assoc p (x ∷ []) r))
+start_none : (a b : List ℕ) → ((k : ℕ) → k < length a → k < length b → get_or b k 0 ≤ get_or a k 0 + 1) → raised_start a b ≡ none
+unfolding raised_start
+start_none [] b h = refl
+start_none (x ∷ a) [] h = refl
+start_none (x ∷ a) (y ∷ b) h =
+    rw (le-ltb (x + 1) y (h 0 (omega arith) (omega arith)), start_none a b (λ k p q. h (suc k) (omega arith) (omega arith)), raised_start)
 
-pub start_none : (a b : List ℕ) → raised_start a b ≡ after (take 0 a) (raised_start (drop 0 a) (drop 0 b))
-start_none a b = same (raised_start a b)
-  where
-    same : (o : Option (List ℕ)) → o ≡ after [] o
-    same none = refl
-    same (some r) = refl
-
-module _ (a b : List ℕ) (i : ℕ) where
-  module _ (ha : i < length a) (hb : i < length b) where
-    pub start_next : get_or b i 0 ≤ get_or a i 0 + 1 → after (take i a) (raised_start (drop i a) (drop i b)) ≡ after (take (i + 1) a) (raised_start (drop (i + 1) a) (drop (i + 1) b))
-    unfolding raised_start
-    start_next l =
-        rw (add-one i, drop-cons a i 0 ha, drop-cons b i 0 hb, take-suc a i 0 ha, le-ltb (get_or a i 0 + 1) (get_or b i 0) l, raised_start)
-        (after_cons (take i a) (get_or a i 0) (raised_start (drop (suc i) a) (drop (suc i) b)))
-
-    pub start_here : get_or a i 0 + 1 < get_or b i 0 → after (take i a) (raised_start (drop i a) (drop i b)) ≡ some (raised a i (i + 1))
-    unfolding raised_start raised part
-    start_here l =
-        let z : i + 1 - (i + 1) ≡ 0 = omega arith in
-        rw (drop-cons a i 0 ha, drop-cons b i 0 hb, lt-ltb (get_or a i 0 + 1) (get_or b i 0) l, z, raised_start)
-
-  pub start_ended : min (length a) (length b) ≤ i → after (take i a) (raised_start (drop i a) (drop i b)) ≡ none
-  unfolding raised_start
-  start_ended h = ended (drop i a) (drop i b) (omega (arith, length-drop i a, length-drop i b))
-    where
-      ended : (x y : List ℕ) → min (length x) (length y) ≡ 0 → after (take i a) (raised_start x y) ≡ none
-      ended [] y e = refl
-      ended (x ∷ xs) [] e = refl
-      ended (x ∷ xs) (y ∷ ys) e = absurd (omega arith)
+-- the place before which none can be raised
+pub raises_first : (a b : List ℕ) (r : maybe.Option ℕ) → ((i : ℕ) → get_or b i 0 < 256)
+    → MatchOption r ((k : ℕ) → k < length a → k < length b → get_or b k 0 ≤ get_or a k 0 + 1)
+    (λ n. (n < length a) × (n < length b) × (get_or a n 0 + 1 < get_or b n 0) × ((k : ℕ) → k < n → get_or b k 0 ≤ get_or a k 0 + 1))
+    → RaisesFirst a b r
+raises_first a b None bytes h = start_none a b h
+raises_first a b (Some n) bytes (ha, hb, l, h) =
+    (record { before = omega arith; within = omega arith; low = omega (arith, bytes n) }, start_first a b n ha hb l h)
 
 -- ---- the last place to raise
 
--- no byte from n on can be raised, and now the one before
-module _ (a : List ℕ) (n : ℕ) (pos : 0 < n) (h : n ≤ length a) (rest : raised_last (drop n a) ≡ none) where
-  next : suc (n - 1) ≡ n
-  next = omega arith
+last_none : (a : List ℕ) → ((k : ℕ) → k < length a → 255 ≤ get_or a k 0) → raised_last a ≡ none
+unfolding raised_last
+last_none [] h = refl
+last_none (x ∷ a) h = rw (last_none a (λ k l. h (suc k) (omega arith)), le-ltb x 255 (h 0 (omega arith)), raised_last)
 
-  split_before : drop (n - 1) a ≡ get_or a (n - 1) 0 ∷ drop n a
-  split_before = drop-cons a (n - 1) 0 (omega arith) ∙ ap (λ (j : ℕ). get_or a (n - 1) 0 ∷ drop j a) next
+last_found : (a : List ℕ) (n : ℕ) → n < length a → get_or a n 0 < 255 → ((k : ℕ) → n < k → k < length a → 255 ≤ get_or a k 0)
+    → raised_last a ≡ some (raised a n (length a))
+unfolding raised_last
+last_found [] n l low h = absurd (omega arith)
+last_found (x ∷ a) zero l low h =
+    let e = last_none a (λ k q. h (suc k) (omega arith) (omega arith)) in
+    rw (e, lt-ltb x 255 low, raised_first_byte x a, raised_last)
+last_found (x ∷ a) (suc n) l low h =
+    let e = last_found a n (omega arith) low (λ k p q. h (suc k) (omega arith) (omega arith)) in
+    rw (e, raised_cons x a n (length a), raised_last)
 
-  pub last_not : 255 ≤ get_or a (n - 1) 0 → raised_last (drop (n - 1) a) ≡ none
-  unfolding raised_last
-  last_not l = rw (split_before, rest, le-ltb (get_or a (n - 1) 0) 255 l, raised_last)
-
-  pub last_raised : get_or a (n - 1) 0 < 255 → raised_last a ≡ some (raised a (n - 1) (length a))
-  unfolding raised part raised_last
-  last_raised l =
-      let e : n - 1 + 1 ≡ n = omega arith in
-      let here : raised_last (drop (n - 1) a) ≡ some ((get_or a (n - 1) 0 + 1) ∷ drop n a) = rw (split_before, rest, lt-ltb (get_or a (n - 1) 0) 255 l, raised_last) in
-      last_before (n - 1) a here ∙ rw (e, part_rest a n)
-    where
-      last_before : (m : ℕ) (a : List ℕ) {r : List ℕ} → raised_last (drop m a) ≡ some r → raised_last a ≡ some (take m a ++ r)
-      last_before zero a e = e
-      last_before (suc m) [] e = e
-      last_before (suc m) (x ∷ a) e = rw (last_before m a e, raised_last)
+-- the place behind which none can be raised
+pub raises_last : (a : List ℕ) (r : maybe.Option ℕ)
+    → MatchOption r ((k : ℕ) → k < length a → 255 ≤ get_or a k 0)
+    (λ n. (n < length a) × (get_or a n 0 < 255) × ((k : ℕ) → n < k → k < length a → 255 ≤ get_or a k 0)) → RaisesLast a r
+raises_last a None h = last_none a h
+raises_last a (Some n) (l, low, h) = (record { before = l; within = omega arith; low = low }, last_found a n l low h)
 
 -- ---- the shortest separator, by the places found
 
-module _ (a b : List ℕ) {f : Found} (first : RaisesFirst a b f) where
-  module _ {i : ℕ} (e : f ≡ At i) where
-    first_says : RaisesFirst a b (At i)
-    first_says = rw e at first
+module _ (a b : List ℕ) where
+  pub first_planned : {i : ℕ} → RaisesFirst a b (Some i) → Planned a (Raised i (i + 1)) (shortest_sep a b)
+  unfolding sep_bytes SepFits shortest_sep
+  first_planned first = record { fits = first.0; gives = rw (first.1, shortest_sep) }
 
-    pub first_fits : Raisable a i (i + 1)
-    first_fits = first_says.0
-
-    pub first_planned : Planned a (Raised i (i + 1)) (shortest_sep a b)
+  module _ (first : RaisesFirst a b None) where
+    pub longer_planned : RaisesLast a None → Planned a Longer (shortest_sep a b)
     unfolding sep_bytes SepFits shortest_sep
-    first_planned = record { fits = first_fits; gives = rw (first_says.1, shortest_sep) }
+    longer_planned last = record { fits = tt; gives = rw (first, last, shortest_sep) }
 
-  module _ (none_first : f ≡ Nothing) where
-    start : raised_start a b ≡ none
-    start = rw none_first at first
-
-    module _ {l : Found} (last : RaisesLast a l) where
-      pub longer_planned : l ≡ Nothing → Planned a Longer (shortest_sep a b)
+    module _ {i : ℕ} (last : RaisesLast a (Some i)) where
+      pub last_planned : bytes_below (raised a i (length a)) b ≡ true → Planned a (Raised i (length a)) (shortest_sep a b)
       unfolding sep_bytes SepFits shortest_sep
-      longer_planned e = record { fits = tt; gives = rw (start, rw e at last, shortest_sep) }
+      last_planned t = record { fits = last.0; gives = rw (first, last.1, t, shortest_sep) }
 
-      module _ {i : ℕ} (e : l ≡ At i) where
-        last_says : RaisesLast a (At i)
-        last_says = rw e at last
-
-        pub last_planned : bytes_below (raised a i (length a)) b ≡ true → Planned a (Raised i (length a)) (shortest_sep a b)
-        unfolding sep_bytes SepFits shortest_sep
-        last_planned t = record { fits = last_says.0; gives = rw (start, last_says.1, t, shortest_sep) }
-
-        pub not_planned : bytes_below (raised a i (length a)) b ≡ false → Planned a Longer (shortest_sep a b)
-        unfolding sep_bytes SepFits shortest_sep
-        not_planned t = record { fits = tt; gives = rw (start, last_says.1, t, shortest_sep) }
-
-pub last_fits : (a : List ℕ) {l : Found} {i : ℕ} → RaisesLast a l → l ≡ At i → Raisable a i (length a)
-last_fits a {l} {i} last e = let s : RaisesLast a (At i) = rw e at last in s.0
+      pub not_planned : bytes_below (raised a i (length a)) b ≡ false → Planned a Longer (shortest_sep a b)
+      unfolding sep_bytes SepFits shortest_sep
+      not_planned t = record { fits = tt; gives = rw (first, last.1, t, shortest_sep) }
 
 -- ---- the user separator: empty keys, keys that are not below, and separators that reach the next key give the key itself
 
@@ -228,13 +208,15 @@ module _ (a b : List ℕ) {u v : List ℕ} (is_u : u ≡ user_of a) (is_v : v �
   unfolding separator
   separator_whole h = rw (← is_u, ← is_v, le-ltb (length (user_sep u v)) (length u) h, separator)
 
-  pub internal_whole : s ≡ Whole → a ≡ separator a b
+  -- a plan that raises no byte gives a separator no shorter than the user key
+  pub internal_other : ((i n : ℕ) → s ≡ Raised i n → ⊥) → a ≡ separator a b
   unfolding sep_bytes
-  internal_whole e = separator_whole (omega (arith, ap length (rw e at p.gives)))
-
-  pub internal_longer : s ≡ Longer → a ≡ separator a b
-  unfolding sep_bytes
-  internal_longer e = separator_whole (omega (arith, ap length (rw e at p.gives), length-append u (0 ∷ [])))
+  internal_other d = separator_whole (at_least s d (ap length p.gives))
+    where
+      at_least : (t : Sep) → ((i n : ℕ) → t ≡ Raised i n → ⊥) → length (sep_bytes u t) ≡ length (user_sep u v) → length u ≤ length (user_sep u v)
+      at_least Whole d e = omega arith
+      at_least Longer d e = omega (arith, length-append u (0 ∷ []))
+      at_least (Raised i n) d e = absurd (d i n refl)
 
   module _ {i n : ℕ} (e : s ≡ Raised i n) where
     is_raised : raised u i n ≡ user_sep u v
@@ -259,18 +241,22 @@ module _ (a b : List ℕ) {u v : List ℕ} (is_u : u ≡ user_of a) (is_v : v �
 
 -- ---- successors
 
-module _ (key : List ℕ) (i : ℕ) where
-  module _ (h : i < length key) where
-    pub succ_next : get_or key i 0 ≡ 255 → take i key ++ short_succ (drop i key) ≡ take (i + 1) key ++ short_succ (drop (i + 1) key)
-    unfolding short_succ
-    succ_next e =
-        rw (add-one i, drop-cons key i 0 h, take-suc key i 0 h, eq-eqb (get_or key i 0) 255 e, short_succ)
-        (sym (append_assoc (take i key) (get_or key i 0 ∷ []) (short_succ (drop (suc i) key))))
+succ_low : (key : List ℕ) (n : ℕ) → n < length key → (get_or key n 0 ≡ 255 → ⊥) → ((k : ℕ) → k < n → get_or key k 0 ≡ 255)
+    → short_succ key ≡ take n key ++ ((get_or key n 0 + 1) ∷ [])
+unfolding short_succ
+succ_low [] n l d h = absurd (omega arith)
+succ_low (x ∷ key) zero l d h = rw (ne_eqb x 255 d, short_succ)
+succ_low (x ∷ key) (suc n) l d h =
+    rw (eq-eqb x 255 (h 0 (omega arith)), succ_low key n (omega arith) d (λ k q. h (suc k) (omega arith)), short_succ)
 
-    pub succ_here : (get_or key i 0 ≡ 255 → ⊥) → take i key ++ ((get_or key i 0 + 1) ∷ []) ≡ take i key ++ short_succ (drop i key)
-    unfolding short_succ
-    succ_here d = rw (drop-cons key i 0 h, ne_eqb (get_or key i 0) 255 d, short_succ)
+succ_full : (key : List ℕ) → ((k : ℕ) → k < length key → get_or key k 0 ≡ 255) → short_succ key ≡ key ++ (255 ∷ [])
+unfolding short_succ
+succ_full [] h = refl
+succ_full (x ∷ key) h = rw (eq-eqb x 255 (h 0 (omega arith)), succ_full key (λ k l. h (suc k) (omega arith)), short_succ)
 
-  pub succ_ended : i ≡ length key → key ++ (255 ∷ []) ≡ take i key ++ short_succ (drop i key)
-  unfolding short_succ
-  succ_ended e = rw (e, take-length key, drop-length key)
+-- the place before which all are 255
+pub low_first : (key : List ℕ) (r : maybe.Option ℕ)
+    → MatchOption r ((k : ℕ) → k < length key → get_or key k 0 ≡ 255)
+    (λ n. (n < length key) × (get_or key n 0 ≡ 255 → ⊥) × ((k : ℕ) → k < n → get_or key k 0 ≡ 255)) → FirstLow key r
+low_first key None h = succ_full key h
+low_first key (Some n) (l, d, h) = (l, d, succ_low key n l d h)

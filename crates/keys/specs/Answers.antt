@@ -1,10 +1,10 @@
 -- The code's answers, by the definitions' outcomes.
 use Prim.Native.Nat.{ℕ, suc, zero, ◌-◌, Ordering}
-use Rattle.std.specs.Prelude.{Bool, true, false, List, ltb, length}
-use Rattle.keys.specs.declared.cmp.Ordering as OrderingEnum
-use Rattle.keys.specs.declared.cmp.Ordering.TheVariants as OrderCase
-use Rattle.keys.specs.declared.key_types.KeyRead.{KeyRead}
-use Rattle.keys.specs.declared.key_types.KeyRead.TheVariants as KeyCase
+use Rattle.std.specs.Prelude.{Bool, true, false, List, ltb, length, Option, None, Some}
+use Rattle.std.specs.Ordering.{is_lt}
+use Rattle.std.specs.declared.cmp.Ordering as OrderingEnum
+use Rattle.std.specs.declared.cmp.Ordering.TheVariants as OrderCase
+use Rattle.keys.specs.declared.key_types.ParsedKey.{ParsedKey}
 use Rattle.keys.specs.declared.key_types.ValueType.{ValueType}
 use Rattle.keys.specs.declared.key_types.ValueType.TheVariants as KindCase
 use Rattle.keys.specs.Order.{seq_of, kind_of}
@@ -17,9 +17,7 @@ order_answer Ordering.gt = OrderCase.Greater
 
 -- it says "less"
 abbrev pub says_less : OrderingEnum.Ordering → Bool
-says_less OrderCase.Less = true
-says_less OrderCase.Equal = false
-says_less OrderCase.Greater = false
+says_less = is_lt
 
 -- a kind byte: 0 is a deletion, any other a value
 unfoldable pub kind_answer : ℕ → ValueType
@@ -27,6 +25,6 @@ kind_answer zero = KindCase.TypeDeletion
 kind_answer (suc n) = KindCase.TypeValue
 
 -- an internal key's parts: how long its user key is, its sequence and its kind; a key shorter than 8 bytes has none
-unfoldable pub key_answer : List ℕ → KeyRead
+unfoldable pub key_answer : List ℕ → Option ParsedKey
 key_answer k =
-    elim (ltb (length k) 8) [ true ↦ KeyCase.TooShort | false ↦ KeyCase.Key (length k - 8) (seq_of k) (kind_answer (kind_of k)) ]
+    elim (ltb (length k) 8) [ true ↦ None | false ↦ Some (record { user_len = length k - 8; sequence = seq_of k; kind = kind_answer (kind_of k) }) ]

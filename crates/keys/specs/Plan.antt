@@ -1,9 +1,7 @@
 -- What the code's steps stand for: bytes as one number, greatest first, and a separator as a plan over its key.
-use Rattle.std.specs.Prelude.{ℕ, ◌+◌, ◌*◌, ◌-◌, ◌^◌, ◌≤◌, ◌<◌, ◌≡◌, List, [], ◌∷◌, ◌++◌, length, take, drop, get_or}
+use Rattle.std.specs.Prelude.{ℕ, ◌+◌, ◌*◌, ◌-◌, ◌^◌, ◌≤◌, ◌<◌, ◌≡◌, List, [], ◌∷◌, ◌++◌, length, take, get_or, Option, None, Some}
 use Rattle.std.proofs.Math.Option.{none, some}
 use Rattle.codec.specs.Bytes.{part}
-use Rattle.keys.specs.declared.cmp.Found.{Found}
-use Rattle.keys.specs.declared.cmp.Found.TheVariants.{At, Nothing}
 use Rattle.keys.specs.declared.cmp.Sep.{Sep}
 use Rattle.keys.specs.declared.cmp.Sep.TheVariants.{Whole, Longer, Raised}
 use Rattle.keys.specs.Order.{raised_start, raised_last, short_succ}
@@ -24,14 +22,14 @@ pub record Raisable (a : List ℕ) (i n : ℕ) : Type 0 where
   pub low : get_or a i 0 < 255
 
 -- where a start of a is raised
-abbrev pub RaisesFirst : List ℕ → List ℕ → Found → Type 0
-RaisesFirst a b (At i) = Raisable a i (i + 1) × (raised_start a b ≡ some (raised a i (i + 1)))
-RaisesFirst a b Nothing = raised_start a b ≡ none
+abbrev pub RaisesFirst : List ℕ → List ℕ → Option ℕ → Type 0
+RaisesFirst a b (Some i) = Raisable a i (i + 1) × (raised_start a b ≡ some (raised a i (i + 1)))
+RaisesFirst a b None = raised_start a b ≡ none
 
 -- where the whole of a is raised
-abbrev pub RaisesLast : List ℕ → Found → Type 0
-RaisesLast a (At i) = Raisable a i (length a) × (raised_last a ≡ some (raised a i (length a)))
-RaisesLast a Nothing = raised_last a ≡ none
+abbrev pub RaisesLast : List ℕ → Option ℕ → Type 0
+RaisesLast a (Some i) = Raisable a i (length a) × (raised_last a ≡ some (raised a i (length a)))
+RaisesLast a None = raised_last a ≡ none
 
 -- the bytes of a plan
 unfoldable pub sep_bytes : List ℕ → Sep → List ℕ
@@ -50,8 +48,8 @@ pub record Planned (a : List ℕ) (s : Sep) (bytes : List ℕ) : Type 0 where
   pub fits : SepFits a s
   pub gives : sep_bytes a s ≡ bytes
 
--- n is the place of the first byte of a key that is not 255, or the key's length
-pub record FirstLow (key : List ℕ) (n : ℕ) : Type 0 where
-  pub within : n ≤ length key
-  pub low : n < length key → get_or key n 0 ≡ 255 → ⊥
-  pub front : short_succ key ≡ take n key ++ short_succ (drop n key)
+-- the place of the first byte of a key that is not 255, or that there is none
+abbrev pub FirstLow : List ℕ → Option ℕ → Type 0
+FirstLow key (Some n) =
+    (n < length key) × (get_or key n 0 ≡ 255 → ⊥) × (short_succ key ≡ take n key ++ ((get_or key n 0 + 1) ∷ []))
+FirstLow key None = short_succ key ≡ key ++ (255 ∷ [])

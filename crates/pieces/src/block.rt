@@ -6,11 +6,13 @@ ghost use Rattle.blocks.specs.Search.{seek_in, first_in, in_order, any_order};
 ghost use Rattle.block_builder.specs.Builder.{new_builder};
 ghost use Rattle.block_reader.specs.Said.{kind_of, at_in, next_in};
 ghost use Rattle.pieces.specs.Numbers.{ToldOut, WroteOut};
-ghost use Rattle.pieces.specs.Blocks.{kind_in, AddsBlock, row_out, SaysOut};
+ghost use Rattle.pieces.specs.Blocks.{kind_in, AddsBlock, no_row, row_out, SaysOut};
 
-use crate::numbers::{SalevoniSize, number_if, size_out};
+use crate::numbers::{SalevoniSize, number_if};
 use block_builder::block_builder::BlockBuilder;
-use block_reader::block::{Found, Kind, Which};
+use block_reader::block;
+use block_reader::block::{BlockError, Entry, Kind, Which};
+use codec::put::NoRoom;
 
 // 0 and the block with an entry more, or 2 and the block as it was where the entry does not fit.
 #[repr(C)]
@@ -37,53 +39,41 @@ pub struct SalevoniRow {
 fn kind_in(n: u32) -> Kind
     ensures { result ≡ kind_in n }
 {
-    if n == 0 {
-        return Kind::Data;
+    match n {
+        0 => Kind::Data,
+        1 => Kind::Index,
+        _ => Kind::Metaindex,
     }
-    if n == 1 {
-        return Kind::Index;
+}
+
+// A number without an entry.
+fn no_row(answer: u32) -> SalevoniRow
+    ensures { result ≡ no_row answer }
+{
+    SalevoniRow {
+        answer,
+        start: 0,
+        key_len: 0,
+        value_at: 0,
+        value_len: 0,
     }
-    Kind::Metaindex
 }
 
 // An answer of reading a block.
-fn row_out(f: Found) -> SalevoniRow
-    ensures { result ≡ row_out f }
+fn row_out(answer: Result<Option<Entry>, BlockError>) -> SalevoniRow
+    ensures { result ≡ row_out answer }
 {
-    match f {
-        Found::Entry {
-            start,
-            key_len,
-            value_at,
-            value_len,
-        } => SalevoniRow {
+    match answer {
+        Ok(Some(e)) => SalevoniRow {
             answer: 0,
-            start: start,
-            key_len: key_len,
-            value_at: value_at,
-            value_len: value_len,
+            start: e.start,
+            key_len: e.key_len,
+            value_at: e.value_at,
+            value_len: e.value_len,
         },
-        Found::None => SalevoniRow {
-            answer: 100,
-            start: 0,
-            key_len: 0,
-            value_at: 0,
-            value_len: 0,
-        },
-        Found::NoPlace => SalevoniRow {
-            answer: 14,
-            start: 0,
-            key_len: 0,
-            value_at: 0,
-            value_len: 0,
-        },
-        Found::Bad => SalevoniRow {
-            answer: 10,
-            start: 0,
-            key_len: 0,
-            value_at: 0,
-            value_len: 0,
-        },
+        Ok(None) => no_row(100),
+        Err(BlockError::NoPlace) => no_row(14),
+        Err(BlockError::Bad) => no_row(10),
     }
 }
 
@@ -104,11 +94,16 @@ pub fn salevoni_block_add(
 ) -> SalevoniBlockAdded
     ensures { AddsBlock block out.old out.new restarts.old restarts.new key.now value.now result }
 {
-    let x = block.add(out, 0, restarts, key, value);
-    let b = x.block;
-    SalevoniBlockAdded {
-        answer: number_if(x.fits, 0, 2),
-        block: b,
+    let mut b = block;
+    match b.add(out, 0, restarts, key, value) {
+        Ok(()) => SalevoniBlockAdded {
+            answer: 0,
+            block: b,
+        },
+        Err(NoRoom) => SalevoniBlockAdded {
+            answer: 2,
+            block: b,
+        },
     }
 }
 
@@ -116,41 +111,40 @@ pub fn salevoni_block_add(
 pub fn salevoni_block_finish(block: BlockBuilder, out: &mut [u8], restarts: &[u32]) -> SalevoniSize
     ensures { WroteOut out.old block.bytes (tail_bytes (take block.restarts restarts.now)) result out.new }
 {
-    size_out(block.finish(out, 0, restarts))
+    SalevoniSize::from(block.finish(out, 0, restarts))
 }
 
 // Whether some bytes are a well-formed block of a kind, 0 data, 1 index, any other metaindex: 0 or 10.
 pub fn salevoni_block_check(block: &[u8], kind: u32) -> u32
     ensures { ToldOut (is_formed (kind_of (kind_in kind)) block.now) 0 10 result }
 {
-    let k = kind_in(kind);
-    number_if(block_reader::block::is_formed(block, k), 0, 10)
+    number_if(block::is_formed(block, kind_in(kind)), 0, 10)
 }
 
 // The first entry of a block.
 pub fn salevoni_block_first(block: &[u8], key: &mut [u8]) -> SalevoniRow
     ensures { SaysOut block.now first_in any_order key.old result key.new }
 {
-    row_out(block_reader::block::first(block, key))
+    row_out(block::first(block, key))
 }
 
 // The entry at a place of a block.
 pub fn salevoni_block_at(block: &[u8], start: usize, key: &mut [u8]) -> SalevoniRow
     ensures { SaysOut block.now (at_in start) any_order key.old result key.new }
 {
-    row_out(block_reader::block::by_place(block, start, Which::Here, key))
+    row_out(block::by_place(block, start, Which::Here, key))
 }
 
 // The entry after the one at a place.
 pub fn salevoni_block_after(block: &[u8], start: usize, key: &mut [u8]) -> SalevoniRow
     ensures { SaysOut block.now (next_in start) any_order key.old result key.new }
 {
-    row_out(block_reader::block::by_place(block, start, Which::After, key))
+    row_out(block::by_place(block, start, Which::After, key))
 }
 
 // The first entry of a block that is not below a word and an edition.
 pub fn salevoni_block_seek(block: &[u8], word: &[u8], edition: u64, key: &mut [u8]) -> SalevoniRow
     ensures { SaysOut block.now (seek_in (record { word = word.entry.now; edition = edition })) in_order key.old result key.new }
 {
-    row_out(block_reader::block::seek(block, word, edition, key))
+    row_out(block::seek(block, word, edition, key))
 }

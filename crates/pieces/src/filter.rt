@@ -6,9 +6,9 @@ ghost use Rattle.filter_block.specs.Make.{groups_up_to};
 ghost use Rattle.pieces.specs.Numbers.{ToldOut, WroteOut};
 ghost use Rattle.pieces.specs.Filters.{bloom_of, MadeOut};
 
-use crate::numbers::{SalevoniSize, number_if, size_out};
-use bloom::filter::Filter;
-use filter_block::filter_block::Made;
+use crate::numbers::{SalevoniSize, number_if};
+use codec::put::NoRoom;
+use filter_block::filter_block::{Made, make_filters};
 
 // 0 and how many bytes the filters have now and how many there are, or 2 and zeros without room.
 #[repr(C)]
@@ -17,6 +17,28 @@ pub struct SalevoniFilters {
     pub answer: u32,
     pub bytes: usize,
     pub made: usize,
+}
+
+// What making filters answers.
+impl From<Result<Made, NoRoom>> for SalevoniFilters {
+    ghost use Rattle.pieces.specs.Filters.{made_out};
+
+    ghost from_gives = { λ r x. x ≡ made_out r };
+
+    fn from(r: Result<Made, NoRoom>) -> SalevoniFilters {
+        match r {
+            Ok(m) => SalevoniFilters {
+                answer: 0,
+                bytes: m.bytes,
+                made: m.made,
+            },
+            Err(NoRoom) => SalevoniFilters {
+                answer: 2,
+                bytes: 0,
+                made: 0,
+            },
+        }
+    }
 }
 
 // The hash of some bytes.
@@ -37,7 +59,7 @@ pub fn salevoni_probes(bits: u32) -> u32
 pub fn salevoni_filter(bits: u32, hashes: &[u32], out: &mut [u8]) -> SalevoniSize
     ensures { WroteOut out.old 0 (filter_for (bloom_of bits) hashes.now) result out.new }
 {
-    size_out(bloom::filter::create_filter(Filter::Bits(bits), hashes, out, 0))
+    SalevoniSize::from(bloom::filter::create_filter(Some(bits), hashes, out, 0))
 }
 
 // Makes filters until there are count, the first of all hashes, the others empty, behind bytes bytes of made filters.
@@ -52,34 +74,14 @@ pub fn salevoni_filter_block_add(
 ) -> SalevoniFilters
     ensures { MadeOut (bloom_of bits) (groups_up_to made count hashes.now) bytes made result filters.old filters.new offsets.old offsets.new }
 {
-    let m = filter_block::filter_block::make_filters(
-        Filter::Bits(bits),
-        hashes,
-        count,
-        filters,
-        bytes,
-        offsets,
-        made,
-    );
-    match m {
-        Made::Filters { bytes, made } => SalevoniFilters {
-            answer: 0,
-            bytes: bytes,
-            made: made,
-        },
-        Made::NoRoom => SalevoniFilters {
-            answer: 2,
-            bytes: 0,
-            made: 0,
-        },
-    }
+    SalevoniFilters::from(make_filters(Some(bits), hashes, count, filters, bytes, offsets, made))
 }
 
 // The filter block of filters and their starts.
 pub fn salevoni_filter_block_finish(filters: &[u8], offsets: &[u32], out: &mut [u8]) -> SalevoniSize
     ensures { WroteOut out.old 0 (filter_block_of filters.now offsets.now) result out.new }
 {
-    size_out(filter_block::filter_block::finish(out, 0, filters, offsets))
+    SalevoniSize::from(filter_block::filter_block::finish(out, 0, filters, offsets))
 }
 
 // Whether a filter lets a hash through: 1 or 0.

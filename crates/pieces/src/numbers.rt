@@ -1,8 +1,7 @@
 // Answers in numbers that several functions share.
 ghost use Rattle.std.specs.Prelude.{◌≡◌, cond};
-ghost use Rattle.pieces.specs.Numbers.{size_out};
 
-use codec::put::Written;
+use codec::put::NoRoom;
 
 // 0 and the size of what was written, or 2 where there is no room for it.
 #[repr(C)]
@@ -13,12 +12,16 @@ pub struct SalevoniSize {
 }
 
 // What writing at the front of a run answers.
-pub fn size_out(w: Written) -> SalevoniSize
-    ensures { result ≡ size_out w }
-{
-    match w {
-        Written::At(n) => SalevoniSize { answer: 0, size: n },
-        Written::NoRoom => SalevoniSize { answer: 2, size: 0 },
+impl From<Result<usize, NoRoom>> for SalevoniSize {
+    ghost use Rattle.pieces.specs.Numbers.{size_out};
+
+    ghost from_gives = { λ r x. x ≡ size_out r };
+
+    fn from(r: Result<usize, NoRoom>) -> SalevoniSize {
+        match r {
+            Ok(size) => SalevoniSize { answer: 0, size },
+            Err(NoRoom) => SalevoniSize { answer: 2, size: 0 },
+        }
     }
 }
 

@@ -7,8 +7,9 @@ ghost use Rattle.table_block.specs.Answers.{footer_answer};
 ghost use Rattle.pieces.specs.Numbers.{WroteOut};
 ghost use Rattle.pieces.specs.Pieces.{footer_out};
 
-use crate::numbers::{SalevoniSize, size_out};
-use table_block::footer::FooterRead;
+use crate::numbers::SalevoniSize;
+use table_block::footer::Footer;
+use table_block::refusal::Refusal;
 
 // A table's footer: 0 and where the metaindex and the index stand, or the refusal's number and zeros.
 #[repr(C)]
@@ -21,32 +22,33 @@ pub struct SalevoniFooter {
     pub index_size: usize,
 }
 
-// The footer of a table.
-pub fn salevoni_footer(table: &[u8]) -> SalevoniFooter
-    ensures { result ≡ footer_out (footer_answer (footer table.now)) }
+// The footer's answer, in numbers.
+fn footer_out(answer: Result<Footer, Refusal>) -> SalevoniFooter
+    ensures { result ≡ footer_out answer }
 {
-    let f = table_block::footer::decode(table);
-    match f {
-        FooterRead::Footer {
-            meta_offset,
-            meta_size,
-            index_offset,
-            index_size,
-        } => SalevoniFooter {
+    match answer {
+        Ok(f) => SalevoniFooter {
             answer: 0,
-            meta_offset: meta_offset,
-            meta_size: meta_size,
-            index_offset: index_offset,
-            index_size: index_size,
+            meta_offset: f.metaindex.offset,
+            meta_size: f.metaindex.size,
+            index_offset: f.index.offset,
+            index_size: f.index.size,
         },
-        FooterRead::Refused(n) => SalevoniFooter {
-            answer: n,
+        Err(why) => SalevoniFooter {
+            answer: why.number(),
             meta_offset: 0,
             meta_size: 0,
             index_offset: 0,
             index_size: 0,
         },
     }
+}
+
+// The footer of a table.
+pub fn salevoni_footer(table: &[u8]) -> SalevoniFooter
+    ensures { result ≡ footer_out (footer_answer (footer table.now)) }
+{
+    footer_out(table_block::footer::decode(table))
 }
 
 // The checksum continued over some bytes; it starts from 0.
@@ -67,26 +69,26 @@ pub fn salevoni_mask(crc: u32) -> u32
 pub fn salevoni_internal_key(out: &mut [u8], word: &[u8], edition: u64, kind: u8) -> SalevoniSize
     ensures { WroteOut out.old 0 (internal word.now edition kind) result out.new }
 {
-    size_out(keys::key_types::build_internal_key(out, 0, word, edition, kind))
+    SalevoniSize::from(keys::key_types::build_internal_key(out, 0, word, edition, kind))
 }
 
 // The separator of two words.
 pub fn salevoni_separator(out: &mut [u8], a: &[u8], b: &[u8]) -> SalevoniSize
     ensures { WroteOut out.old 0 (user_sep a.now b.now) result out.new }
 {
-    size_out(keys::cmp::find_shortest_sep(out, 0, a, b))
+    SalevoniSize::from(keys::cmp::find_shortest_sep(out, 0, a, b))
 }
 
 // The separator of two internal keys.
 pub fn salevoni_internal_separator(out: &mut [u8], a: &[u8], b: &[u8]) -> SalevoniSize
     ensures { WroteOut out.old 0 (separator a.now b.now) result out.new }
 {
-    size_out(keys::cmp::find_internal_sep(out, 0, a, b))
+    SalevoniSize::from(keys::cmp::find_internal_sep(out, 0, a, b))
 }
 
 // A short word not below a word.
 pub fn salevoni_short_succ(out: &mut [u8], a: &[u8]) -> SalevoniSize
     ensures { WroteOut out.old 0 (short_succ a.now) result out.new }
 {
-    size_out(keys::cmp::find_short_succ(out, 0, a))
+    SalevoniSize::from(keys::cmp::find_short_succ(out, 0, a))
 }

@@ -1,3 +1,4 @@
 pub mod BuiltLaws
+pub mod NumberLaws
 pub mod OneAnswerLaws
 pub mod ReadLaws

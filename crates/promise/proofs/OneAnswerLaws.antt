@@ -11,8 +11,6 @@ use Rattle.codec.specs.Shown.{Shown}
 use Rattle.codec.proofs.Prelude.{test, split, apart}
 use Rattle.keys.specs.Order.{Point}
 use Rattle.bloom.specs.Choice.{choice_of}
-use Rattle.bloom.specs.declared.filter.Filter.{Filter}
-use Rattle.bloom.specs.declared.filter.Filter.TheVariants as FilterCase
 use Rattle.table.specs.Checked.{Checked, pass, refuse}
 use Rattle.table.specs.Options.{Options}
 use Rattle.table.specs.Build.{Building, accept}
@@ -20,19 +18,19 @@ use Rattle.table.specs.Counts.{Counts}
 use Rattle.table.specs.Runs.{Runs, room_of, overlay}
 use Rattle.table.specs.Reads.{Answer, refused, point_fits, buffer_after, Of, seek_says, lookup_says, step_says}
 use Rattle.table.specs.Reads
+use Rattle.filters.specs.FilterBlock.{filter_block_of}
 use Rattle.blocks.specs.Block.{block_bytes}
 use Rattle.blocks.specs.Count.{BlockCount}
 use Rattle.block_builder.specs.Builder.{count_in}
 use Rattle.block_builder.specs.declared.block_builder.BlockBuilder.{BlockBuilder}
-use Rattle.table_write.specs.Writes.{EndWritten, filter_block, meta_block, whole}
-use Rattle.builder.specs.declared.table_builder.Answer.TheVariants as AnswerCase
+use Rattle.table_write.specs.Writes.{EndWritten, meta_block, whole}
 use Rattle.builder.specs.declared.table_builder.Options as Given
+use Rattle.std.specs.Prelude.{Option, None, Some, Err}
+use Rattle.table_block.specs.declared.refusal.Refusal as Why
 use Rattle.builder.specs.declared.table_builder.Builder.{Builder}
-use Rattle.builder.specs.declared.table_builder.Outcome.TheVariants as OutcomeCase
 use Rattle.builder.specs.State.{options_of, counts_in, Stands}
 use Rattle.builder.specs.Answers.{answer_of, Traced}
-use Rattle.reader.specs.declared.table_reader.Sought.{Sought}
-use Rattle.reader.specs.Answers.{sought_of, looked_of}
+use Rattle.reader.specs.Answers.{Sought, sought_of, looked_of}
 use Rattle.promise.specs.OneAnswer
 
 module _ {A : Type 0} where
@@ -54,11 +52,11 @@ pub wrote_fixed_lem : OneAnswer.wrote_fixed
 wrote_fixed_lem d at bs x y h k = λ i. (both h.said k.said i, both h.left k.left i)
 
 pub counted_fixed_lem : OneAnswer.counted_fixed
-counted_fixed_lem b key value x y h k = λ i. record { fits = both h.fits k.fits i; block = both h.block k.block i }
+counted_fixed_lem b key value x y h k = λ i. (both h.fits k.fits i, both h.block k.block i)
 
 pub block_added_fixed_lem : OneAnswer.block_added_fixed
 block_added_fixed_lem b at out restarts key value x y h k = λ i.
-    (record { fits = both h.fits k.fits i; block = both h.block k.block i }, both h.written k.written i, both h.marked k.marked i)
+    ((both h.fits k.fits i, both h.block k.block i), both h.written k.written i, both h.marked k.marked i)
 
 pub made_fixed_lem : OneAnswer.made_fixed
 made_fixed_lem c gs bytes made f o x y h k = λ i. (both h.said k.said i, both h.filters k.filters i, both h.offsets k.offsets i)
@@ -73,22 +71,22 @@ runs_fixed c d h k = test c (λ t i. ((d t i).1, (d t i).2)) (λ f i. (both (h f
 
 pub indexed_fixed_lem : OneAnswer.indexed_fixed
 indexed_fixed_lem closing b at indexed key index restarts x y h k =
-    runs_fixed closing (λ t. block_added_fixed_lem indexed 0 index restarts key _ (h.added, x.0, x.1) (k.added, y.0, y.1) (h.done t) (k.done t)) h.kept k.kept
+    runs_fixed closing (λ t. block_added_fixed_lem indexed 0 index restarts key _ ((h.added, h.after), x.0, x.1) ((k.added, k.after), y.0, y.1) (h.done t) (k.done t)) h.kept k.kept
 
 pub more_fixed_lem : OneAnswer.more_fixed
-more_fixed_lem more c n waiting bytes made f o hashes x y h k =
+more_fixed_lem more c n bytes made f o waiting x y h k =
     runs_fixed more (λ t. made_fixed_lem c _ bytes made f o (h.said, x.0, x.1) (k.said, y.0, y.1) (h.done t) (k.done t)) h.kept k.kept
 
 pub entered_fixed_lem : OneAnswer.entered_fixed
 entered_fixed_lem b at waiting key word value out restarts hashes x y h k =
-    let e = block_added_fixed_lem b at out restarts key value (h.added, x.0, x.1) (k.added, y.0, y.1) h.entry k.entry in
+    let e = block_added_fixed_lem b at out restarts key value ((h.added, h.after), x.0, x.1) ((k.added, k.after), y.0, y.1) h.entry k.entry in
     λ i. ((e i).1, (e i).2, both h.hash k.hash i)
 
 -- where it can be written, it is the whole table
 end_written : (e : OneAnswer.End) (q : OneAnswer.Ready e) (x : List ℕ)
-    → EndWritten e.interval e.filtering e.at e.bytes e.made e.indexed e.filters e.offsets e.index e.restarts e.out x
-    → (let fb = filter_block e.bytes e.made e.filters e.offsets in
-    x ≡ overlay (whole q.blocks fb (meta_block e.interval e.filtering e.at (length fb)) (block_bytes q.every q.entries)) q.before)
+    → EndWritten e.interval e.filtering e.at e.indexed e.filters e.offsets e.index e.restarts e.out x
+    → (let fb = filter_block_of e.filters e.offsets in
+    x ≡ overlay (whole q.blocks fb (meta_block e.interval e.filtering (record { offset = e.at; size = length fb })) (block_bytes q.every q.entries)) q.before)
 end_written e q x h = (h.done q.fits).wrote q.least q.most q.every q.entries q.stands q.blocks q.before q.laid q.ends q.room
 
 pub end_fixed_lem : OneAnswer.end_fixed
@@ -150,18 +148,18 @@ step_fixed_lem t ix at k d = shown_fixed_lem Answer Sought (List ℕ) sought_of 
 -- ---- building
 
 pub start_fixed_lem : OneAnswer.start_fixed
-start_fixed_lem o r x y h k = λ i. (record { answer = both h.answer k.answer i; state = both h.state k.state i }, both h.kept k.kept i)
+start_fixed_lem o r x y h k = λ i. (both h.said k.said i, both h.kept k.kept i)
 
 -- a call that refuses, and leaves the state and the runs as they were
-refusal_fixed : {A X : Type 0} (make : A → Builder → X) (say : ℕ → A) {n : ℕ} {a b : A} {s y z : Builder} {r u v : Runs} → a ≡ say n → b ≡ say n → ((m : ℕ) → a ≡ say m → (y ≡ s) × (u ≡ r))
-    → ((m : ℕ) → b ≡ say m → (z ≡ s) × (v ≡ r)) → ◌≡◌ {A = X × Runs} (make a y, u) (make b z, v)
+refusal_fixed : {A X : Type 0} (make : A → Builder → X) (say : Why.Refusal → A) {n : Why.Refusal} {a b : A} {s y z : Builder} {r u v : Runs} → a ≡ say n → b ≡ say n → ((m : Why.Refusal) → a ≡ say m → (y ≡ s) × (u ≡ r))
+    → ((m : Why.Refusal) → b ≡ say m → (z ≡ s) × (v ≡ r)) → ◌≡◌ {A = X × Runs} (make a y, u) (make b z, v)
 refusal_fixed make say p q f g = λ i. (make (both p q i) (both (f _ p).0 (g _ q).0 i), both (f _ p).1 (g _ q).1 i)
 
 pub add_refused_fixed_lem : OneAnswer.add_refused_fixed
-add_refused_fixed_lem s r a e x y h k = refusal_fixed (λ b z. record { answer = b; state = z }) AnswerCase.Refused (h.early e) (k.early e) h.refused k.refused
+add_refused_fixed_lem s r a e x y h k = refusal_fixed (λ b z. record { answer = b; state = z }) Err (h.early e) (k.early e) h.refused k.refused
 
 pub finish_refused_fixed_lem : OneAnswer.finish_refused_fixed
-finish_refused_fixed_lem s r e x y h k = refusal_fixed (λ b z. record { answer = b; state = z }) OutcomeCase.Refused (h.early e) (k.early e) h.refused k.refused
+finish_refused_fixed_lem s r e x y h k = refusal_fixed (λ b z. record { answer = b; state = z }) Err (h.early e) (k.early e) h.refused k.refused
 
 pub finish_fixed_lem : OneAnswer.finish_fixed
 finish_fixed_lem s r w x y h k =
@@ -174,12 +172,12 @@ finish_fixed_lem s r w x y h k =
     (record { answer = both p q i; state = both (h.over _ p) (k.over _ q) i }, both (h.runs o xs b w.accepts w.stands) (k.runs o xs b w.accepts w.stands) i)
 
 -- the filter choice is told by what it stands for
-choice_fixed : (a b : Filter) → choice_of a ≡ choice_of b → a ≡ b
+choice_fixed : (a b : Option ℕ) → choice_of a ≡ choice_of b → a ≡ b
 unfolding choice_of
-choice_fixed FilterCase.None FilterCase.None e = refl
-choice_fixed FilterCase.None (FilterCase.Bits n) e = apart cc
-choice_fixed (FilterCase.Bits n) FilterCase.None e = apart cc
-choice_fixed (FilterCase.Bits n) (FilterCase.Bits m) e = let w : n ≡ m = cc in ap FilterCase.Bits w
+choice_fixed None None e = refl
+choice_fixed None (Some n) e = apart cc
+choice_fixed (Some n) None e = apart cc
+choice_fixed (Some n) (Some m) e = let w : n ≡ m = cc in ap Some w
 
 options_fixed : (a b : Given.Options) → options_of a ≡ options_of b → a ≡ b
 unfolding options_of
@@ -239,6 +237,6 @@ add_fixed_lem s r a w x y u v h k =
         let runs = both (f.runs c e) (g.runs c e) in
         (both f.answer g.answer, runs, stands_fixed (f.stands c e) (subst (λ (q : Runs). Stands w.options c y.state q) (sym runs) (g.stands c e)))
     go (refuse n) e f g =
-        let p = h.refused n (f.answer ∙ ap answer_of e) in
-        let q = k.refused n (g.answer ∙ ap answer_of e) in
+        let p = h.refused _ (f.answer ∙ ap answer_of e) in
+        let q = k.refused _ (g.answer ∙ ap answer_of e) in
         (both f.answer g.answer, both p.1 q.1, ap OneAnswer.trimmed (both p.0 q.0))

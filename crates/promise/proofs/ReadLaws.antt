@@ -24,10 +24,9 @@ use Rattle.table.proofs.PlaceLaws.{values_stand_lem}
 use Rattle.table.proofs.OverlayLaws.{overlay_front}
 use Rattle.table.proofs.ReadsLaws.{by_kind_lem}
 use Rattle.reader.specs.declared.table_reader.Entry.{Entry}
-use Rattle.reader.specs.declared.table_reader.Found as FoundEnum
+use Rattle.std.specs.Prelude.{Ok, Err}
 use Rattle.reader.specs.declared.table_reader.Found.TheVariants as FoundCase
-use Rattle.reader.specs.declared.table_reader.Sought.{Sought}
-use Rattle.reader.specs.Answers.{entry_of, sought_of, looked_of}
+use Rattle.reader.specs.Answers.{entry_of, Sought, sought_of, Looked, looked_of}
 use Rattle.reader.specs.Walk.{least_point, visit_of}
 use Rattle.reader.proofs.TourLaws.{walk_means_lem}
 use Rattle.reader.proofs.LeastLaws.{whole_walk_lem}
@@ -73,11 +72,11 @@ seek_finds_least_lem t q p f k l r k' s = by_seek t q p (seek_of t p) refl k (sa
 -- ---- lookup
 
 -- an entry as a lookup shows it, by its kind
-abbrev Kind : Found → FoundEnum.Found → Type 0
-Kind x (FoundCase.Entry e) = (kind_of x.key ≡ 0 → ⊥) × (entry_of x ≡ e)
-Kind x (FoundCase.Deleted e) = (kind_of x.key ≡ 0) × (entry_of x ≡ e)
-Kind x FoundCase.Absent = ⊥
-Kind x (FoundCase.Refused n) = ⊥
+abbrev Kind : Found → Looked → Type 0
+Kind x (Ok (FoundCase.Entry e)) = (kind_of x.key ≡ 0 → ⊥) × (entry_of x ≡ e)
+Kind x (Ok (FoundCase.Deleted e)) = (kind_of x.key ≡ 0) × (entry_of x ≡ e)
+Kind x (Ok FoundCase.Absent) = ⊥
+Kind x (Err why) = ⊥
 
 kind : (x : Found) (k : List ℕ) → Kind x (looked_of (by_kind (some x))) × (buffer_after (by_kind (some x)) k ≡ overlay x.key k)
 unfolding looked_of buffer_after
@@ -87,7 +86,7 @@ kind x k =
     (λ z. ((eqb-false (kind_of x.key) 0 z, refl), refl))
 
 module _ (t : List ℕ) (q : Passed t) (p : Point) where
-  by_lookup : (o : Option Found) → lookup_of t p ≡ o → (k : List ℕ) {r : FoundEnum.Found} {k' : List ℕ} → (r ≡ looked_of (by_kind o)) × (k' ≡ buffer_after (by_kind o) k) → LooksNewest t p k r k'
+  by_lookup : (o : Option Found) → lookup_of t p ≡ o → (k : List ℕ) {r : Looked} {k' : List ℕ} → (r ≡ looked_of (by_kind o)) × (k' ≡ buffer_after (by_kind o) k) → LooksNewest t p k r k'
   unfolding by_kind looked_of buffer_after
   by_lookup none is k (e, b) =
       rw e (record {
@@ -99,7 +98,7 @@ module _ (t : List ℕ) (q : Passed t) (p : Point) where
       })
   by_lookup (some x) is k {r} {k'} (e, b) =
       let n = (lookup_means_lem t p q x).0 is in
-      let shown : (c : FoundEnum.Found) → r ≡ c → Kind x c = λ c g. subst (Kind x) (sym e ∙ g) (kind x k).0 in
+      let shown : (c : Looked) → r ≡ c → Kind x c = λ c g. subst (Kind x) (sym e ∙ g) (kind x k).0 in
       let given : (en : Entry) → entry_of x ≡ en → Gives t k' en x = λ en g. gives t x n.stands k k' (b ∙ (kind x k).1) g in
       record {
         absent = (λ g. absurd (shown _ g), λ f. absurd (f x n.stands n.is_word n.not_newer));
@@ -150,7 +149,7 @@ module _ (t : List ℕ) (xs : List Addition) (all : map addition_of (plain t) �
       let r = read_from_lem m in
       f r.0 r.1 (ap (λ (c : Addition). c.word) (sym r.2) ∙ w) (subst (λ (c : Addition). c.edition ≤ p.edition) r.2 l)
 
-  looks_up : {k : List ℕ} {r : FoundEnum.Found} {k' : List ℕ} → LooksNewest t p k r k' → LooksUp t xs p k r k'
+  looks_up : {k : List ℕ} {r : Looked} {k' : List ℕ} → LooksNewest t p k r k' → LooksUp t xs p k r k'
   unfolding addition_of
   looks_up n =
       record {

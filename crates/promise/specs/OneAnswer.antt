@@ -1,15 +1,16 @@
 -- Two answers that meet one promise, with all that they leave in lent memory, are the same. Of a contract that says what an answer is equal to this is
 -- `equal_fixed`; here stand all others, each on the inputs on which it fixes the answer.
-use Rattle.std.specs.Prelude.{ℕ, ◌≤◌, ◌<◌, ◌≡◌, List, Bool, true, false, ◌⊎◌, length, take}
+use Rattle.std.specs.Prelude.{ℕ, ◌≤◌, ◌<◌, ◌≡◌, List, Bool, true, false, ◌⊎◌, length, take, Result}
+use Rattle.std.specs.Prelude as Code
 use Rattle.std.proofs.Math.Option.{Option, some}
 use Rattle.codec.specs.Put.{Wrote}
 use Rattle.codec.specs.Shown.{Shown}
-use Rattle.codec.specs.declared.blockhandle.OneHandle.{OneHandle}
-use Rattle.codec.specs.declared.put.Written.{Written}
+use Rattle.codec.specs.Varint.{Handle}
+use Rattle.codec.specs.declared.put.NoRoom.{NoRoom}
 use Rattle.keys.specs.Order.{Point}
 use Rattle.blocks.specs.Block.{Entry, Pair, block_bytes}
 use Rattle.blocks.specs.Search.{readable}
-use Rattle.filters.specs.FilterBlock.{Filtering}
+use Rattle.filters.specs.FilterBlock.{Filtering, filter_block_of}
 use Rattle.table.specs.Checked.{pass, refuse}
 use Rattle.table.specs.Options.{Options, Addition, addition_fits}
 use Rattle.table.specs.Build.{Building, begin, accept_all}
@@ -17,27 +18,22 @@ use Rattle.table.specs.Runs.{Runs, room_of, overlay}
 use Rattle.table.specs.Table.{footer}
 use Rattle.table.specs.Promise.{Passed}
 use Rattle.table.specs.Reads.{point_fits}
-use Rattle.block_builder.specs.declared.block_builder.Added as BlockAdded
 use Rattle.block_builder.specs.declared.block_builder.BlockBuilder.{BlockBuilder}
-use Rattle.block_builder.specs.declared.block_builder.Counted.{Counted}
 use Rattle.block_builder.specs.Builder as Blocks
-use Rattle.block_reader.specs.declared.block.Found as BlockFound
+use Rattle.block_reader.specs.declared.block.BlockError.{BlockError}
+use Rattle.block_reader.specs.declared.block.Entry as Row
 use Rattle.block_reader.specs.Said.{Said}
 use Rattle.filter_block.specs.declared.filter_block.Made.{Made}
 use Rattle.filter_block.specs.Make.{MadeFilters}
 use Rattle.table_block.specs.Answers.{BloomRead}
-use Rattle.table_write.specs.Writes.{ClosedOut, ClosedIndex, MoreFilters, EnteredRuns, EndFits, EndWritten, filter_block, meta_block, whole}
+use Rattle.table_write.specs.Writes.{ClosedOut, ClosedIndex, MoreFilters, EnteredRuns, EndFits, EndWritten, meta_block, whole}
 use Rattle.builder.specs.declared.table_builder.Options as Given
 use Rattle.builder.specs.declared.table_builder.Builder.{Builder}
-use Rattle.builder.specs.declared.table_builder.Started.{Started}
-use Rattle.builder.specs.declared.table_builder.Added.{Added}
-use Rattle.builder.specs.declared.table_builder.Finished.{Finished}
+use Rattle.table_block.specs.declared.refusal.Refusal as Why
 use Rattle.builder.specs.State.{lengths_of, Stands}
 use Rattle.builder.specs.Steps.{early_of}
-use Rattle.builder.specs.Answers.{StartedIs, AddedIs, FinishedIs}
-use Rattle.reader.specs.declared.table_reader.Found.{Found}
-use Rattle.reader.specs.declared.table_reader.Sought.{Sought}
-use Rattle.reader.specs.Answers.{Seeks, Looks, Steps}
+use Rattle.builder.specs.Answers.{Added, Finished, StartedIs, AddedIs, FinishedIs}
+use Rattle.reader.specs.Answers.{Sought, Seeks, Looked, Looks, Steps}
 
 -- a promise fixes its answer
 abbrev pub Fixed : (A : Type 0) → (A → Type 0) → Type 0
@@ -56,21 +52,21 @@ shown_fixed = (A R M : Type 0) (show : A → R) (so : A → M → Type 0) → Fi
 
 -- bytes written at a place of a run
 abbrev pub wrote_fixed : Type 0
-wrote_fixed = (d : List ℕ) (at : ℕ) (bs : List ℕ) → Fixed (Written × List ℕ) (λ x. Wrote d at bs x.0 x.1)
+wrote_fixed = (d : List ℕ) (at : ℕ) (bs : List ℕ) → Fixed (Result ℕ NoRoom × List ℕ) (λ x. Wrote d at bs x.0 x.1)
 
 -- an entry counted
 abbrev pub counted_fixed : Type 0
-counted_fixed = (b : BlockBuilder) (key : List ℕ) (value : ℕ) → Fixed Counted (λ x. Blocks.CountedIs b key value x)
+counted_fixed = (b : BlockBuilder) (key : List ℕ) (value : ℕ) → Fixed (Result (Unit {0}) NoRoom × BlockBuilder) (λ x. Blocks.CountedIs b key value x.0 x.1)
 
 -- an entry added to a block
 abbrev pub block_added_fixed : Type 0
 block_added_fixed = (b : BlockBuilder) (at : ℕ) (out restarts key value : List ℕ)
-    → Fixed (BlockAdded.Added × List ℕ × List ℕ) (λ x. Blocks.AddedIs b at out x.1 restarts x.2 key value x.0)
+    → Fixed ((Result (Unit {0}) NoRoom × BlockBuilder) × List ℕ × List ℕ) (λ x. Blocks.AddedIs b at out x.1 restarts x.2 key value x.0.0 x.0.1)
 
 -- filters made
 abbrev pub made_fixed : Type 0
 made_fixed = (c : Filtering) (gs : List (List ℕ)) (bytes made : ℕ) (f o : List ℕ)
-    → Fixed (Made × List ℕ × List ℕ) (λ x. MadeFilters c gs bytes made x.0 f x.1 o x.2)
+    → Fixed (Result Made NoRoom × List ℕ × List ℕ) (λ x. MadeFilters c gs bytes made x.0 f x.1 o x.2)
 
 -- a block closed, or not: written
 abbrev pub closed_fixed : Type 0
@@ -83,8 +79,8 @@ indexed_fixed = (closing : Bool) (b : BlockBuilder) (at : ℕ) (indexed : BlockB
 
 -- more filters, or not
 abbrev pub more_fixed : Type 0
-more_fixed = (more : Bool) (c : Filtering) (n waiting bytes made : ℕ) (f o hashes : List ℕ)
-    → Fixed (List ℕ × List ℕ) (λ x. MoreFilters more c n waiting bytes made f x.0 o x.1 hashes)
+more_fixed = (more : Bool) (c : Filtering) (n bytes made : ℕ) (f o waiting : List ℕ)
+    → Fixed (List ℕ × List ℕ) (λ x. MoreFilters more c n bytes made f x.0 o x.1 waiting)
 
 -- an entry and its hash
 abbrev pub entered_fixed : Type 0
@@ -98,8 +94,6 @@ pub record End : Type 0 where
   pub interval : ℕ
   pub filtering : Filtering
   pub at : ℕ
-  pub bytes : ℕ
-  pub made : ℕ
   pub indexed : BlockBuilder
   pub filters : List ℕ
   pub offsets : List ℕ
@@ -109,7 +103,7 @@ pub record End : Type 0 where
 
 -- its numbers are of 64 bits, and what it is written from stands within the runs
 abbrev pub Fits : End → Type 0
-Fits e = EndFits e.at e.bytes e.made e.indexed (length e.filters) (length e.offsets) (length e.index)
+Fits e = EndFits e.at (length e.filters) (length e.offsets) e.indexed (length e.index)
 
 -- an index block stands in its runs, and there is room behind the data blocks
 pub record Ready (e : End) : Type 0 where
@@ -123,24 +117,24 @@ pub record Ready (e : End) : Type 0 where
   pub before : List ℕ
   pub laid : e.out ≡ overlay blocks before
   pub ends : length blocks ≡ e.at
-  pub room : (let fb = filter_block e.bytes e.made e.filters e.offsets in
-      length (whole blocks fb (meta_block e.interval e.filtering e.at (length fb)) (block_bytes every entries)) ≤ length before)
+  pub room : (let fb = filter_block_of e.filters e.offsets in
+      length (whole blocks fb (meta_block e.interval e.filtering (record { offset = e.at; size = length fb })) (block_bytes every entries)) ≤ length before)
 
 -- the end written
 abbrev pub end_fixed : Type 0
 end_fixed = (e : End) → (Fits e → ⊥) ⊎ Ready e
-    → Fixed (List ℕ) (λ x. EndWritten e.interval e.filtering e.at e.bytes e.made e.indexed e.filters e.offsets e.index e.restarts e.out x)
+    → Fixed (List ℕ) (λ x. EndWritten e.interval e.filtering e.at e.indexed e.filters e.offsets e.index e.restarts e.out x)
 
 -- ---- one block, where it can be read
 
 -- a read of a block
 abbrev pub said_fixed : Type 0
 said_fixed = (s : List ℕ) (says : List Entry → Option (Option Entry)) (ordered : List Entry → Bool) (k : List ℕ) (es : List Entry)
-    → readable s ≡ some es → ordered es ≡ true → Fixed (BlockFound.Found × List ℕ) (λ x. Said s says ordered k x.0 x.1)
+    → readable s ≡ some es → ordered es ≡ true → Fixed (Result (Code.Option Row.Entry) BlockError × List ℕ) (λ x. Said s says ordered k x.0 x.1)
 
 -- the filter block's handle
 abbrev pub bloom_fixed : Type 0
-bloom_fixed = (s : List ℕ) (es : List Entry) → readable s ≡ some es → Fixed OneHandle (BloomRead s)
+bloom_fixed = (s : List ℕ) (es : List Entry) → readable s ≡ some es → Fixed (Code.Option Handle) (BloomRead s)
 
 -- ---- a table, unless the full check refuses it for more than its footer
 
@@ -158,7 +152,7 @@ seek_fixed = (t : List ℕ) (p : Point) (k : List ℕ) → Asked t p k → Fixed
 
 -- a lookup
 abbrev pub lookup_fixed : Type 0
-lookup_fixed = (t : List ℕ) (p : Point) (k : List ℕ) → Asked t p k → Fixed (Found × List ℕ) (λ x. Looks t p k x.0 x.1)
+lookup_fixed = (t : List ℕ) (p : Point) (k : List ℕ) → Asked t p k → Fixed (Looked × List ℕ) (λ x. Looks t p k x.0 x.1)
 
 -- a step
 abbrev pub step_fixed : Type 0
@@ -168,7 +162,7 @@ step_fixed = (t : List ℕ) (ix at : ℕ) (k : List ℕ) → (length k < 1032) �
 
 -- start, on every input
 abbrev pub start_fixed : Type 0
-start_fixed = (o : Given.Options) (r : Runs) → Fixed (Started × Runs) (λ x. StartedIs o r x.1 x.0)
+start_fixed = (o : Given.Options) (r : Runs) → Fixed (Result Builder Why.Refusal × Runs) (λ x. StartedIs o r x.1 x.0)
 
 -- the state and the runs are those of the latest call
 pub record Latest (s : Builder) (r : Runs) : Type 0 where

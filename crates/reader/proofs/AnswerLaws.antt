@@ -11,34 +11,36 @@ use Rattle.codec.proofs.Prelude.{and_r}
 use Rattle.table.specs.Table.{Found}
 use Rattle.table.specs.Reads.{Answer, refused, nothing, found, deleted, listed}
 use Rattle.reader.specs.declared.table_reader.Entry.{Entry}
-use Rattle.reader.specs.declared.table_reader.Sought.{Sought}
-use Rattle.reader.specs.declared.table_reader.Sought.TheVariants as SoughtCase
-use Rattle.reader.specs.Answers.{entry_of, sought_of}
-use Rattle.reader.specs.Parts.{Holds, Tells, Short}
+use Rattle.std.specs.Prelude.{Ok, Err, None, Some}
+use Rattle.table_block.specs.declared.refusal.Refusal.{Refusal}
+use Rattle.table_block.specs.Refusals.{number, refusal}
+use Rattle.table_block.proofs.RefusalLaws.{refusal_number}
+use Rattle.reader.specs.Answers.{entry_of, Sought, sought_of}
+use Rattle.reader.specs.Parts.{Holds, Tells, Listed, Short}
 
 -- ---- the answer, by what is shown
 
 abbrev pub Shows : Sought → Answer → Type 0
-Shows (SoughtCase.Refused n) a = a ≡ refused n
-Shows SoughtCase.None a = a ≡ nothing
-Shows (SoughtCase.Entry e) a = (x : Found) × (entry_of x ≡ e) × ((a ≡ found x) ⊎ (a ≡ deleted x))
+Shows (Err e) a = (n : ℕ) × (refusal n ≡ e) × (a ≡ refused n)
+Shows (Ok None) a = a ≡ nothing
+Shows (Ok (Some e)) a = (x : Found) × (entry_of x ≡ e) × ((a ≡ found x) ⊎ (a ≡ deleted x))
 
 pub shows : {r q : Sought} (a : Answer) → r ≡ sought_of a → r ≡ q → Shows q a
 unfolding sought_of
 shows a shown is = subst (λ (q : Sought). Shows q a) (sym shown ∙ is) (go a)
   where
     go : (a : Answer) → Shows (sought_of a) a
-    go (refused n) = refl
+    go (refused n) = (n, refl, refl)
     go nothing = refl
     go (found x) = (x, refl, inl refl)
     go (deleted x) = (x, refl, inr refl)
 
 -- an entry, with its key at the front of a buffer: either as a value or as a deletion
-pub by_entry : (P : Answer → Type 0) {r : Sought} {e : Entry} (b : List ℕ) (a : Answer) → r ≡ sought_of a → r ≡ SoughtCase.Entry e → Holds a b
+pub by_entry : (P : Answer → Type 0) {r : Sought} {e : Entry} (b : List ℕ) (a : Answer) → r ≡ sought_of a → r ≡ Ok (Some e) → Holds a b
     → ((x : Found) → entry_of x ≡ e → take e.key_len b ≡ x.key → P (found x)) → ((x : Found) → entry_of x ≡ e → take e.key_len b ≡ x.key → P (deleted x)) → P a
 unfolding entry_of
 by_entry P {e = e} b a shown is holds f g =
-    let s : Shows (SoughtCase.Entry e) a = shows a shown is in
+    let s : Shows (Ok (Some e)) a = shows a shown is in
     let key : take (length s.0.key) b ≡ s.0.key → take e.key_len b ≡ s.0.key = λ k. ap (λ (y : Entry). take y.key_len b) (sym s.1) ∙ k in
     ⊎_elim
     (λ i. subst P (sym i) (f s.0 s.1 (key (subst (λ (c : Answer). Holds c b) i holds))))
@@ -47,11 +49,11 @@ by_entry P {e = e} b a shown is holds f g =
 
 -- ---- what is told of it
 
-pub tells_refused : (t : List ℕ) {n : ℕ} {b : List ℕ} (told : Answer → Type 0) → ((t : List ℕ) → T (listed t (refused n))) → told (refused n) → Tells sought_of t told (SoughtCase.Refused n) b
+pub tells_refused : (t : List ℕ) {e : Refusal} {b : List ℕ} (told : Answer → Type 0) → Listed e → told (refused (number e)) → Tells sought_of t told (Err e) b
 unfolding sought_of
-tells_refused t {n} told fair is = record { answer = refused n; shown = refl; holds = tt; inside = fair t; is = is }
+tells_refused t {e} told fair is = record { answer = refused (number e); shown = ap Err (sym (refusal_number e)); holds = tt; inside = fair t; is = is }
 
-pub tells_none : (t : List ℕ) {b : List ℕ} (told : Answer → Type 0) → told nothing → Tells sought_of t told SoughtCase.None b
+pub tells_none : (t : List ℕ) {b : List ℕ} (told : Answer → Type 0) → told nothing → Tells sought_of t told (Ok None) b
 unfolding sought_of listed
 tells_none t told is = record { answer = nothing; shown = refl; holds = tt; inside = tt; is = is }
 
@@ -74,8 +76,8 @@ tells_short {t} w = subst Short (sym w.shown) (go w.answer w.inside)
     go (deleted x) i = listed_key t x i
 
 -- an entry's key lies in a buffer of 1,032 bytes
-pub entry_short : {r : Sought} {e : Entry} → r ≡ SoughtCase.Entry e → Short r → e.key_len ≤ 1032
+pub entry_short : {r : Sought} {e : Entry} → r ≡ Ok (Some e) → Short r → e.key_len ≤ 1032
 entry_short is s = subst Short is s
 
-pub key_long : {r : Sought} {e : Entry} (b : List ℕ) → r ≡ SoughtCase.Entry e → Short r → length b ≡ 1032 → e.key_len ≡ length (take e.key_len b)
+pub key_long : {r : Sought} {e : Entry} (b : List ℕ) → r ≡ Ok (Some e) → Short r → length b ≡ 1032 → e.key_len ≡ length (take e.key_len b)
 key_long {e = e} b is s l = sym (length-take-le e.key_len b (omega (arith, entry_short is s)))

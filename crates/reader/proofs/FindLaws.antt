@@ -8,6 +8,7 @@ use mathlib.Core.Option.{Option, none, some}
 use mathlib.Core.Logic.{⊎_elim}
 use lib.Dec.{T}
 use Rattle.codec.specs.Maybe.{first}
+use Rattle.codec.specs.Varint.{Handle}
 use Rattle.codec.proofs.Lists.{All, all_imp, or_else, first_yes, first_no, first_none}
 use Rattle.codec.proofs.Prelude.{test, true_is, false_is, is_true, apart}
 use Rattle.keys.specs.Order.{Point, point_of, by_point, is_less}
@@ -16,18 +17,19 @@ use Rattle.blocks.specs.Block.{Entry}
 use Rattle.blocks.specs.Search.{reaches, seek_in}
 use Rattle.table.specs.Table.{handle_of, entries_at, found_in, founds_of, read_blocks}
 use Rattle.table.specs.Promise.{Passed, not_below}
-use Rattle.table.specs.Reads.{Answer, refused, found_or, seek_says, listed}
+use Rattle.table.specs.Reads.{Answer, refused, found_or, seek_says}
 use Rattle.table.proofs.SearchLaws
 use Rattle.table.proofs.SearchLaws.{split, seek_beyond, seek_law}
+use Rattle.std.specs.Prelude.{Ok, Err, None, Some}
+use Rattle.table_block.specs.declared.refusal.Refusal.{Refusal}
+use Rattle.table_block.specs.Refusals.{number}
+use Rattle.table_block.proofs.RefusalLaws.{err_not_ok}
 use Rattle.reader.specs.declared.table_reader.Located.{Located}
-use Rattle.reader.specs.declared.table_reader.Located.TheVariants as LocatedCase
-use Rattle.reader.specs.declared.table_reader.Sought.{Sought}
-use Rattle.reader.specs.declared.table_reader.Sought.TheVariants as SoughtCase
-use Rattle.reader.specs.Answers.{sought_of}
-use Rattle.reader.specs.Parts.{Indexed, block_at, Sees, say_at, Says, Tells, or_then, OrLater, Is}
+use Rattle.reader.specs.Answers.{Sought, sought_of}
+use Rattle.reader.specs.Parts.{Indexed, Locating, block_at, Sees, say_at, Says, Tells, or_then, OrLater, Is}
 use Rattle.reader.proofs.AnswerLaws.{tells_refused, tells_none, tells_with}
 use Rattle.reader.proofs.PassedLaws.{passed_opens}
-use Rattle.reader.proofs.LocateLaws.{sees_said}
+use Rattle.reader.proofs.LocateLaws.{sees_listed, sees_said}
 use Rattle.reader.proofs.LaterLaws.{or_later}
 
 -- ---- the first that reaches a point
@@ -64,12 +66,12 @@ or_else_lem ix (some e) l = refl
 
 -- ---- through the index
 
-module _ (t : List ℕ) {offset size : ℕ} (i : Indexed t offset size) (p : Point) {r : Located} (ir : Sees t offset size (seek_in p) r) where
+module _ (t : List ℕ) {h : Handle} (i : Indexed t h) (p : Point) {absent : Refusal} {r : Locating} (ir : Sees t h absent (seek_in p) r) where
   abbrev index : Passed t → List Entry
   index q = (passed_opens t i q).table.index
 
   -- the index entry that the search goes by, or that every one is below the point
-  by_split : {A : Type 0} (q : Passed t) → (All (λ (x : Entry). point_of x.key ≺ p) (index q) → r ≡ block_at (some none) → A) → ((s : SearchLaws.Split p (index q)) → r ≡ block_at (some (some s.here)) → A) → A
+  by_split : {A : Type 0} (q : Passed t) → (All (λ (x : Entry). point_of x.key ≺ p) (index q) → r ≡ block_at absent (some none) → A) → ((s : SearchLaws.Split p (index q)) → r ≡ block_at absent (some (some s.here)) → A) → A
   unfolding seek_in
   by_split q f g =
       let o = passed_opens t i q in
@@ -78,23 +80,24 @@ module _ (t : List ℕ) {offset size : ℕ} (i : Indexed t offset size) (p : Poi
       (λ s. g s (sees_said ir o q (ap some (ap (first (reaches p)) s.whole ∙ reach_some p s.before s.here s.after s.lower s.reaches))))
       (split p o.table.index)
 
-  pub seek_no_place : {b : List ℕ} {told : Answer → Type 0} → r ≡ LocatedCase.NoPlace → ((Passed t → ⊥) → told (refused 10)) → Tells sought_of t told (SoughtCase.Refused 10) b
-  unfolding block_at listed
-  seek_no_place {told = told} e is = tells_refused t told (λ u. tt) (is (λ q. by_split q (λ l g. apart cc) (λ s g. let z : LocatedCase.NoPlace ≡ block_at (some (some s.here)) = sym e ∙ g in apart cc)))
-
-  pub all_below : r ≡ LocatedCase.None → (q : Passed t) → All (λ (x : Entry). point_of x.key ≺ p) (index q)
+  -- the index of a passed table is not refused
+  pub seek_refused : {why : Refusal} {b : List ℕ} {told : Answer → Type 0} → r ≡ Err why → ((Passed t → ⊥) → told (refused (number why))) → Tells sought_of t told (Err why) b
   unfolding block_at
-  all_below e q = by_split q (λ l g. l) (λ s g. let z : LocatedCase.None ≡ block_at (some (some s.here)) = sym e ∙ g in apart cc)
+  seek_refused {told = told} e is = tells_refused t told (sees_listed ir e) (is (λ q. by_split q (λ l g. err_not_ok (sym e ∙ g)) (λ s g. err_not_ok (sym e ∙ g))))
 
-  pub block_split : {start at len : ℕ} → r ≡ LocatedCase.Block start at len → (q : Passed t) → (s : SearchLaws.Split p (index q)) × (LocatedCase.Block start at len ≡ block_at (some (some s.here)))
+  pub all_below : r ≡ Ok None → (q : Passed t) → All (λ (x : Entry). point_of x.key ≺ p) (index q)
   unfolding block_at
-  block_split e q = by_split q (λ l g. apart cc) (λ s g. (s, sym e ∙ g))
+  all_below e q = by_split q (λ l g. l) (λ s g. let z : Ok None ≡ block_at absent (some (some s.here)) = sym e ∙ g in apart cc)
 
-  pub find_none : {b : List ℕ} → r ≡ LocatedCase.None → Tells sought_of t (Is t (seek_says t p)) SoughtCase.None b
+  pub block_split : {block : Located} → r ≡ Ok (Some block) → (q : Passed t) → (s : SearchLaws.Split p (index q)) × (Ok (Some block) ≡ block_at absent (some (some s.here)))
+  unfolding block_at
+  block_split {block} e q = by_split q (λ l g. let z : Ok (Some block) ≡ block_at absent (some none) = sym e ∙ g in apart cc) (λ s g. (s, sym e ∙ g))
+
+  pub find_none : {b : List ℕ} → r ≡ Ok None → Tells sought_of t (Is t (seek_says t p)) (Ok None) b
   unfolding found_or seek_says
   find_none e = tells_none t (Is t (seek_says t p)) (λ q. let o = passed_opens t i q in sym (ap found_or (seek_beyond t p o.table q o.opens (all_below e q))))
 
-  pub find_block : {start at len : ℕ} {h f : Sought} {k b : List ℕ} → r ≡ LocatedCase.Block start at len → (w : Tells sought_of t (Says t start at len (seek_in p)) h k) → Tells sought_of t (OrLater t offset size start w.answer) f b
+  pub find_block : {block : Located} {q f : Sought} {k b : List ℕ} → r ≡ Ok (Some block) → (w : Tells sought_of t (Says t block.start block.handle (seek_in p)) q k) → Tells sought_of t (OrLater t h block.start w.answer) f b
       → Tells sought_of t (Is t (seek_says t p)) f b
   unfolding seek_says seek_in founds_of
   find_block e w = tells_with λ b u q.
@@ -103,7 +106,7 @@ module _ (t : List ℕ) {offset size : ℕ} (i : Indexed t offset size) (p : Poi
       let s = n.0 in
       let ix = s.here in
       let es = entries_at t (handle_of ix.value) in
-      or_later t o (record { before = s.before; here = ix; after = s.after; whole = s.whole; at = refl }) n.1 (seek_in p) w.is u q
+      or_later t o absent (record { before = s.before; here = ix; after = s.after; whole = s.whole; at = refl }) n.1 (seek_in p) w.is u q
       ∙ or_else_lem ix (first (reaches p) es) (head? (read_blocks t s.after))
       ∙ ap (λ (m : Option _). found_or (or_else m (head? (read_blocks t s.after)))) (sym (first_found p ix es))
       ∙ ap found_or (sym (seek_law t p o.table q o.opens s))

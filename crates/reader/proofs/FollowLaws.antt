@@ -8,6 +8,7 @@ use mathlib.Core.Logic.{◌⊎◌, inl, inr, ⊎_elim, ⊎_map}
 use native.Mathlib.Omega.{arith}
 use lib.Dec.{eqb}
 use borrow.Author.Tests.{eqb-true, eqb-false, eq-eqb, ne_eqb}
+use Rattle.codec.specs.Varint.{Handle}
 use Rattle.codec.proofs.Lists.{All, Pairs, all_mem, all_imp}
 use Rattle.codec.proofs.Prelude.{test, apart}
 use Rattle.block_reader.specs.declared.block.Which.TheVariants as WhichCase
@@ -20,15 +21,17 @@ use Rattle.table.specs.Table
 use Rattle.table.specs.Promise.{Passed, is_at, after}
 use Rattle.table.specs.Reads.{Answer, refused, found_or, step_says, listed}
 use Rattle.table.proofs.StandLaws.{open_reading}
+use Rattle.std.specs.Prelude.{Ok, Err, None, Some}
+use Rattle.table_block.specs.declared.refusal.Refusal.{Refusal}
+use Rattle.table_block.specs.declared.refusal.Refusal.TheVariants as Why
+use Rattle.table_block.specs.Refusals.{number}
+use Rattle.table_block.proofs.RefusalLaws.{err_is, ok_not_err, err_not_ok}
 use Rattle.reader.specs.declared.table_reader.Located.{Located}
-use Rattle.reader.specs.declared.table_reader.Located.TheVariants as LocatedCase
-use Rattle.reader.specs.declared.table_reader.Sought.{Sought}
-use Rattle.reader.specs.declared.table_reader.Sought.TheVariants as SoughtCase
-use Rattle.reader.specs.Answers.{sought_of}
-use Rattle.reader.specs.Parts.{Indexed, block_at, Sees, say_at, Says, Tells, Split, or_then, OrLater, Is}
+use Rattle.reader.specs.Answers.{Sought, sought_of}
+use Rattle.reader.specs.Parts.{Indexed, Locating, block_at, Sees, say_at, Says, Tells, Split, or_then, OrLater, Is}
 use Rattle.reader.proofs.AnswerLaws.{tells_refused, tells_with}
 use Rattle.reader.proofs.PassedLaws.{passed_opens}
-use Rattle.reader.proofs.LocateLaws.{sees_said}
+use Rattle.reader.proofs.LocateLaws.{sees_listed, sees_said}
 use Rattle.reader.proofs.LaterLaws.{place_split, index_starts, or_later}
 
 -- ---- an entry by its place
@@ -104,11 +107,11 @@ step_in ix none rest = refl
 step_in ix (some none) rest = refl
 step_in ix (some (some e)) rest = refl
 
-module _ (t : List ℕ) {offset size : ℕ} (i : Indexed t offset size) (ix at : ℕ) {r : Located} (ir : Sees t offset size (at_in ix) r) where
+module _ (t : List ℕ) {h : Handle} (i : Indexed t h) (ix at : ℕ) {r : Locating} (ir : Sees t h Why.NoPlace (at_in ix) r) where
   abbrev index : Passed t → List Entry
   index q = (passed_opens t i q).table.index
 
-  by_place : {A : Type 0} (q : Passed t) → (All (λ (x : Entry). x.start ≡ ix → ⊥) (index q) → r ≡ block_at none → A) → ((s : Split (index q) ix) → r ≡ block_at (some (some s.here)) → A) → A
+  by_place : {A : Type 0} (q : Passed t) → (All (λ (x : Entry). x.start ≡ ix → ⊥) (index q) → r ≡ block_at Why.NoPlace none → A) → ((s : Split (index q) ix) → r ≡ block_at Why.NoPlace (some (some s.here)) → A) → A
   unfolding pick
   by_place q f g =
       let o = passed_opens t i q in
@@ -122,28 +125,31 @@ module _ (t : List ℕ) {offset size : ℕ} (i : Indexed t offset size) (ix at :
   unfolding step_says stepped
   says_after q = let o = passed_opens t i q in ap (λ (l : List Table.Found). stepped (after ix at l)) (open_reading t o.table o.opens)
 
-  pub follow_none : {b : List ℕ} → r ≡ LocatedCase.None → Tells sought_of t (Is t (step_says t ix at)) (SoughtCase.Refused 14) b
+  pub follow_none : {b : List ℕ} → r ≡ Ok None → Tells sought_of t (Is t (step_says t ix at)) (Err Why.NoPlace) b
   unfolding block_at listed
-  follow_none e = tells_refused t (Is t (step_says t ix at)) (λ u. tt) (λ q. by_place q (λ n g. apart cc) (λ s g. let z : LocatedCase.None ≡ block_at (some (some s.here)) = sym e ∙ g in apart cc))
-
-  pub follow_no_place : {b : List ℕ} → r ≡ LocatedCase.NoPlace → Tells sought_of t (Is t (step_says t ix at)) (SoughtCase.Refused 14) b
-  unfolding block_at listed stepped
-  follow_no_place e =
+  follow_none e =
       tells_refused t (Is t (step_says t ix at)) (λ u. tt)
-      (λ q. by_place q
-      (λ n g. sym (says_after q ∙ ap stepped (after_nowhere t ix at (index q) n)))
-      (λ s g. let z : LocatedCase.NoPlace ≡ block_at (some (some s.here)) = sym e ∙ g in apart cc))
+      (λ q. by_place q (λ n g. ok_not_err (sym e ∙ g)) (λ s g. let z : Ok None ≡ block_at Why.NoPlace (some (some s.here)) = sym e ∙ g in apart cc))
 
-  pub follow_block : {start place len : ℕ} {h f : Sought} {k b : List ℕ} → r ≡ LocatedCase.Block start place len → (w : Tells sought_of t (Says t start place len (next_in at)) h k)
-      → Tells sought_of t (OrLater t offset size start w.answer) f b → Tells sought_of t (Is t (step_says t ix at)) f b
+  -- the index of a passed table is refused only where no index entry starts at the place
+  pub follow_refused : {why : Refusal} {b : List ℕ} → r ≡ Err why → Tells sought_of t (Is t (step_says t ix at)) (Err why) b
+  unfolding block_at stepped
+  follow_refused {why} e =
+      tells_refused t (Is t (step_says t ix at)) (sees_listed ir e)
+      (λ q. by_place q
+      (λ n g. ap (λ (x : Refusal). refused (number x)) (err_is (sym e ∙ g)) ∙ sym (says_after q ∙ ap stepped (after_nowhere t ix at (index q) n)))
+      (λ s g. err_not_ok (sym e ∙ g)))
+
+  pub follow_block : {block : Located} {q f : Sought} {k b : List ℕ} → r ≡ Ok (Some block) → (w : Tells sought_of t (Says t block.start block.handle (next_in at)) q k)
+      → Tells sought_of t (OrLater t h block.start w.answer) f b → Tells sought_of t (Is t (step_says t ix at)) f b
   unfolding block_at
   follow_block e w = tells_with λ b u q.
       by_place q
-      (λ n g. apart cc)
+      (λ n g. ok_not_err (sym e ∙ g))
       (λ s g.
       let o = passed_opens t i q in
       let y = s.here in
-      or_later t o s (sym e ∙ g) (next_in at) w.is u q
+      or_later t o Why.NoPlace s (sym e ∙ g) (next_in at) w.is u q
       ∙ step_in y (next_in at (entries_at t (handle_of y.value))) (read_blocks t s.after)
       ∙ sym (says_after q
       ∙ ap stepped (ap (λ (l : List Entry). after ix at (read_blocks t l)) s.whole ∙ after_here t ix at s.before y s.after (rw s.whole at (index_starts o)) s.at)))

@@ -17,13 +17,13 @@ use Rattle.codec.proofs.Lists.{All, Pairs, all_mem, first_yes, first_no}
 use Rattle.codec.proofs.MaybeLaws.{getting, giving}
 use Rattle.codec.proofs.Prelude.{test, and_i, true_is, false_is}
 use Rattle.codec.proofs.PutLaws.{put_start}
-use Rattle.block_reader.specs.declared.block.Found.{Found}
-use Rattle.block_reader.specs.declared.block.Found.TheVariants as FoundCase
+use Rattle.std.specs.Prelude.{Ok, Err, None, Some}
+use Rattle.block_reader.specs.declared.block.BlockError.TheVariants as BlockCase
 use Rattle.block_reader.specs.declared.block.Which.{Which}
 use Rattle.block_reader.specs.declared.block.Which.TheVariants as WhichCase
 use Rattle.blocks.specs.Block.{Pair, Entry}
 use Rattle.blocks.specs.Search.{readable, reaches, seek_in, first_in, in_order, any_order}
-use Rattle.block_reader.specs.Said.{pick, place_in, found_answer, key_left, buffer_left, Said}
+use Rattle.block_reader.specs.Said.{pick, place_in, Found, found_answer, key_left, buffer_left, Said}
 use Rattle.blocks.proofs.ReadLaws.{StartsBefore, block_starts, ValueIn, block_values}
 use Rattle.table.specs.Table.{ends_before, contents}
 use Rattle.table.specs.Reads.{Answer, refused, nothing, found, listed}
@@ -31,8 +31,7 @@ use Rattle.table.proofs.PlaceLaws.{value_stands}
 use Rattle.table.proofs.StandLaws.{all_entries}
 use Rattle.reader.specs.declared.table_reader.Ask.{Ask}
 use Rattle.reader.specs.declared.table_reader.Ask.TheVariants as AskCase
-use Rattle.reader.specs.declared.table_reader.Sought.{Sought}
-use Rattle.reader.specs.Answers.{entry_of, sought_of}
+use Rattle.reader.specs.Answers.{entry_of, Sought, sought_of}
 use Rattle.reader.specs.Parts.{asked, Inside, hit_of, say_at, Says, Tells}
 use Rattle.reader.proofs.PassedLaws.{placed_within}
 
@@ -69,11 +68,11 @@ picks_place which at (x ∷ xs) e h =
     (λ t. picked which x xs (some_in (rw (t, place_in) at h)))
     (λ t. Memᴰ.tail (picks_place which at xs e (rw (t, place_in) at h)))
 
-pub picks_asked : (ask : Ask) (word : List ℕ) → Picks (asked ask word)
+pub picks_asked : (ask : Ask) → Picks (asked ask)
 unfolding first_in seek_in
-picks_asked AskCase.First word es e h = head_mem es (some_in h)
-picks_asked (AskCase.Place at which) word es e h = picks_place which at es e h
-picks_asked (AskCase.Target edition) word es e h = first_mem (reaches (record { word = word; edition = edition })) es e (some_in h)
+picks_asked AskCase.First es e h = head_mem es (some_in h)
+picks_asked (AskCase.Place at which) es e h = picks_place which at es e h
+picks_asked (AskCase.Target word edition) es e h = first_mem (reaches (record { word = word.now; edition = edition })) es e (some_in h)
 
 -- what is found in any order is found in order too
 pub said_in_order : {s : List ℕ} {says : List Entry → Option (Option Entry)} {k : List ℕ} {f : Found} {k' : List ℕ} → Said s says any_order k f k' → Said s says in_order k f k'
@@ -84,11 +83,11 @@ said_in_order d = record { answer = λ es read order. d.answer es read refl; buf
 
 -- by what was found, and the key at the front of the buffer
 unfoldable answer_of : List ℕ → ℕ → ℕ → Found → List ℕ → Answer
-answer_of t index offset (FoundCase.Entry start n at v) b =
-    found (record { index_start = index; start = start; key = take n b; value_at = offset + at; value = part t (offset + at) v })
-answer_of t index offset FoundCase.None b = nothing
-answer_of t index offset FoundCase.NoPlace b = refused 14
-answer_of t index offset FoundCase.Bad b = refused 10
+answer_of t index offset (Ok (Some e)) b =
+    found (record { index_start = index; start = e.start; key = take e.key_len b; value_at = offset + e.value_at; value = part t (offset + e.value_at) e.value_len })
+answer_of t index offset (Ok None) b = nothing
+answer_of t index offset (Err BlockCase.NoPlace) b = refused 14
+answer_of t index offset (Err BlockCase.Bad) b = refused 10
 
 module _ (t : List ℕ) (h : Handle) (index : ℕ) (placed : ends_before (length t) h.offset h.size ≡ true) where
   -- its numbers are those that the code gives, and its value lies in the table
@@ -101,23 +100,23 @@ module _ (t : List ℕ) (h : Handle) (index : ℕ) (placed : ends_before (length
       room = placed_within (length t) h.offset h.size placed
 
       go : (f : Found) → Rattle.block_reader.specs.Said.Inside (contents t h) k f k' → Tells sought_of t (λ a. a ≡ answer_of t index h.offset f k') (hit_of index h.offset f) k'
-      go (FoundCase.Entry start n at v) i =
+      go (Ok (Some e)) i =
           let most : length (contents t h) ≤ h.size = part_most t h.offset h.size in
-          let here : h.offset + at + v ≤ length t = omega (arith, i.0, room) in
-          let key_long : length (take n k') ≡ n = length-take-le n k' (omega (arith, i.1)) in
-          let value_long : length (part t (h.offset + at) v) ≡ v = part_length t (h.offset + at) v here in
-          let value_in : h.offset + at + length (part t (h.offset + at) v) ≤ length t = rw value_long here in
-          let key_in : length (take n k') ≤ 1032 = rw key_long i.1 in
+          let here : h.offset + e.value_at + e.value_len ≤ length t = omega (arith, i.0, room) in
+          let key_long : length (take e.key_len k') ≡ e.key_len = length-take-le e.key_len k' (omega (arith, i.1)) in
+          let value_long : length (part t (h.offset + e.value_at) e.value_len) ≡ e.value_len = part_length t (h.offset + e.value_at) e.value_len here in
+          let value_in : h.offset + e.value_at + length (part t (h.offset + e.value_at) e.value_len) ≤ length t = rw value_long here in
+          let key_in : length (take e.key_len k') ≤ 1032 = rw key_long i.1 in
           record {
-            answer = answer_of t index h.offset (FoundCase.Entry start n at v) k';
+            answer = answer_of t index h.offset (Ok (Some e)) k';
             shown = rw (key_long, value_long) refl;
             holds = ap (λ (m : ℕ). take m k') key_long;
-            inside = and_i (leb (h.offset + at + length (part t (h.offset + at) v)) (length t)) (leb (length (take n k')) 1032) (le→leb _ _ value_in) (le→leb _ _ key_in);
+            inside = and_i (leb (h.offset + e.value_at + length (part t (h.offset + e.value_at) e.value_len)) (length t)) (leb (length (take e.key_len k')) 1032) (le→leb _ _ value_in) (le→leb _ _ key_in);
             is = refl;
           }
-      go FoundCase.None i = record { answer = nothing; shown = refl; holds = tt; inside = tt; is = refl }
-      go FoundCase.NoPlace i = record { answer = refused 14; shown = refl; holds = tt; inside = tt; is = refl }
-      go FoundCase.Bad i = record { answer = refused 10; shown = refl; holds = tt; inside = tt; is = refl }
+      go (Ok None) i = record { answer = nothing; shown = refl; holds = tt; inside = tt; is = refl }
+      go (Err BlockCase.NoPlace) i = record { answer = refused 14; shown = refl; holds = tt; inside = tt; is = refl }
+      go (Err BlockCase.Bad) i = record { answer = refused 10; shown = refl; holds = tt; inside = tt; is = refl }
 
 pub record Readable (s : List ℕ) (es : List Entry) : Type 0 where
   pub values : All (ValueIn s) es
@@ -153,23 +152,21 @@ module _ (t : List ℕ) (h : Handle) (index : ℕ) where
           rw (room k x long (all_mem r.short m), found_answer, put_start k x.key (length x.key) refl (omega (arith, long, leb→le (length x.key) 1032 (all_mem r.short m))), ← value_stands t h x (all_mem r.values m)) refl
 
 -- what was found in the block, of a kind of search on it
-pub hit_says : (t : List ℕ) (index offset size : ℕ) {says : List Entry → Option (Option Entry)} {s k : List ℕ} {f : Found} {k' : List ℕ} → Picks says
-    → ends_before (length t) offset size ≡ true → s ≡ part t offset size → Said s says in_order k f k' → length k ≡ 1032 → length k' ≡ 1032 → {r : Sought} → r ≡ hit_of index offset f
-    → Tells sought_of t (Says t index offset size says) r k'
+pub hit_says : (t : List ℕ) (index : ℕ) (h : Handle) {says : List Entry → Option (Option Entry)} {s k : List ℕ} {f : Found} {k' : List ℕ} → Picks says
+    → ends_before (length t) h.offset h.size ≡ true → s ≡ part t h.offset h.size → Said s says in_order k f k' → length k ≡ 1032 → length k' ≡ 1032 → {r : Sought} → r ≡ hit_of index h.offset f
+    → Tells sought_of t (Says t index h says) r k'
 unfolding contents
-hit_says t index offset size picks placed s_is said long long' is =
-    let h : Handle = record { offset = offset; size = size } in
+hit_says t index h {says} picks placed s_is said long long' is =
     let s = rw s_is at said in
     let w = hit_tells t h index placed s long' in
-    record { answer = w.answer; shown = is ∙ w.shown; holds = w.holds; inside = w.inside; is = λ es read order. w.is ∙ hit_is t h index picks s long es read order }
+    record { answer = w.answer; shown = ◌∙◌ {c = sought_of w.answer} is w.shown; holds = w.holds; inside = w.inside; is = λ es read order. ◌∙◌ {c = say_at index h.offset (says es)} w.is (hit_is t h index picks s long es read order) }
 
 -- ---- what the parts of a read ask for
 
 pub said_inside : {s : List ℕ} {says : List Entry → Option (Option Entry)} {k k' : List ℕ} {n : ℕ} (f : Found) → Said s says in_order k f k' → length s ≤ n → Inside n f
-said_inside (FoundCase.Entry start m at v) w h = omega (arith, w.inside.0)
-said_inside FoundCase.None w h = tt
-said_inside FoundCase.NoPlace w h = tt
-said_inside FoundCase.Bad w h = tt
+said_inside (Ok (Some e)) w h = omega (arith, w.inside.0)
+said_inside (Ok None) w h = tt
+said_inside (Err e) w h = tt
 
 -- a place in a block is one in the table, of 64 bits
 pub block_fits : (t : List ℕ) (offset size : ℕ) {s : List ℕ} → s ≡ part t offset size → ends_before (length t) offset size ≡ true → length t < 2 ^ 64 → length s ≤ 2 ^ 64 - 1 - offset

@@ -20,18 +20,18 @@ use Rattle.blocks.proofs.ReadLaws.{StartsBefore}
 use Rattle.block_reader.proofs.SeekLaws.{place_past}
 use Rattle.table.specs.Table.{contents, handle_of, entries_at, found_in, founds_of, read_blocks}
 use Rattle.table.specs.Promise.{Passed}
-use Rattle.table.specs.Reads.{Answer, nothing, found_or, listed}
+use Rattle.table.specs.Reads.{Answer, nothing, found_or}
 use Rattle.table.proofs.StandLaws.{Laid}
+use Rattle.std.specs.Prelude.{Ok, Err, None, Some}
+use Rattle.table_block.specs.declared.refusal.Refusal.{Refusal}
+use Rattle.table_block.proofs.RefusalLaws.{err_not_ok}
 use Rattle.reader.specs.declared.table_reader.Located.{Located}
-use Rattle.reader.specs.declared.table_reader.Located.TheVariants as LocatedCase
-use Rattle.reader.specs.declared.table_reader.Sought.{Sought}
-use Rattle.reader.specs.declared.table_reader.Sought.TheVariants as SoughtCase
-use Rattle.reader.specs.Answers.{sought_of}
-use Rattle.reader.specs.Parts.{Indexed, block_at, Sees, say_at, Says, Tells, Split, IsLater, or_then, OrLater}
+use Rattle.reader.specs.Answers.{Sought, sought_of}
+use Rattle.reader.specs.Parts.{Indexed, Locating, block_at, Sees, say_at, Says, Tells, Split, IsLater, or_then, OrLater}
 use Rattle.reader.proofs.AnswerLaws.{tells_refused, tells_none, tells_with}
 use Rattle.reader.proofs.PassedLaws.{Opens, passed_opens}
 use Rattle.reader.proofs.HitLaws.{readable_tells}
-use Rattle.reader.proofs.LocateLaws.{block_said}
+use Rattle.reader.proofs.LocateLaws.{sees_listed, block_said}
 
 -- ---- what is said of a place
 
@@ -66,53 +66,51 @@ first_of_next t ix nx cs (Laid.cons _ (Laid.cons s l)) = go (entries_at t (handl
     go (e ∷ es) u = refl
     go [] u = elim u [ ]
 
-module _ (t : List ℕ) {offset size : ℕ} (i : Indexed t offset size) (start : ℕ) where
-  abbrev h : Handle
-  h = record { offset = offset; size = size }
-
-  module _ {r : Located} (ir : Sees t offset size (next_in start) r) where
+module _ (t : List ℕ) {h : Handle} (i : Indexed t h) (start : ℕ) where
+  module _ {absent : Refusal} {r : Locating} (ir : Sees t h absent (next_in start) r) where
     -- of a passed table: the block of the index entry after a place
-    located_next : (p : Passed t) (s : Split (entries_at t h) start) → r ≡ block_at (some (head? s.after))
+    located_next : (p : Passed t) (s : Split (entries_at t h) start) → r ≡ block_at absent (some (head? s.after))
     unfolding pick
-    located_next p s = let o = passed_opens t i p in ir.passed p ∙ ap block_at (place_split WhichCase.After (rw o.same (index_starts o)) s)
+    located_next p s = let o = passed_opens t i p in ir.passed p ∙ ap (block_at absent) (place_split WhichCase.After (rw o.same (index_starts o)) s)
 
-    pub later_no_place : {b : List ℕ} → r ≡ LocatedCase.NoPlace → Tells sought_of t (IsLater t offset size start) (SoughtCase.Refused 10) b
-    unfolding block_at listed
-    later_no_place e = tells_refused t (IsLater t offset size start) (λ u. tt) (λ p s. absurd (go (head? s.after) (sym e ∙ located_next p s)))
+    pub later_refused : {why : Refusal} {b : List ℕ} → r ≡ Err why → Tells sought_of t (IsLater t h start) (Err why) b
+    unfolding block_at
+    later_refused {why} e = tells_refused t (IsLater t h start) (sees_listed ir e) (λ p s. absurd (go (head? s.after) (sym e ∙ located_next p s)))
       where
-        go : (m : Option Entry) → LocatedCase.NoPlace ≡ block_at (some m) → ⊥
-        go none e = apart cc
-        go (some x) e = apart cc
+        go : (m : Option Entry) → Err why ≡ block_at absent (some m) → ⊥
+        go none e = err_not_ok e
+        go (some x) e = err_not_ok e
 
-    pub later_none : {b : List ℕ} → r ≡ LocatedCase.None → Tells sought_of t (IsLater t offset size start) SoughtCase.None b
+    pub later_none : {b : List ℕ} → r ≡ Ok None → Tells sought_of t (IsLater t h start) (Ok None) b
     unfolding block_at found_or read_blocks
-    later_none e = tells_none t (IsLater t offset size start) (λ p s. go s.after (sym e ∙ located_next p s))
+    later_none e = tells_none t (IsLater t h start) (λ p s. go s.after (sym e ∙ located_next p s))
       where
-        go : (cs : List Entry) → LocatedCase.None ≡ block_at (some (head? cs)) → nothing ≡ found_or (head? (read_blocks t cs))
+        go : (cs : List Entry) → Ok None ≡ block_at absent (some (head? cs)) → nothing ≡ found_or (head? (read_blocks t cs))
         go [] e = refl
         go (c ∷ cs) e = cc
 
-    pub later_first : {next at len : ℕ} {q : Sought} {k : List ℕ} → r ≡ LocatedCase.Block next at len → Tells sought_of t (Says t next at len first_in) q k → Tells sought_of t (IsLater t offset size start) q k
+    pub later_first : {b : Located} {q : Sought} {k : List ℕ} → r ≡ Ok (Some b) → Tells sought_of t (Says t b.start b.handle first_in) q k → Tells sought_of t (IsLater t h start) q k
     unfolding block_at
-    later_first {next} {at} {len} e = tells_with (λ a said p s. go a said p s s.after refl)
+    later_first {b} e = tells_with (λ a said p s. go a said p s s.after refl)
       where
-        go : (a : Answer) → Says t next at len first_in a → (p : Passed t) (s : Split (entries_at t h) start) (cs : List Entry) → s.after ≡ cs → a ≡ found_or (head? (read_blocks t cs))
+        go : (a : Answer) → Says t b.start b.handle first_in a → (p : Passed t) (s : Split (entries_at t h) start) (cs : List Entry) → s.after ≡ cs → a ≡ found_or (head? (read_blocks t cs))
         go a said p s [] after_is =
-            let z : LocatedCase.Block next at len ≡ block_at (some none) = sym e ∙ located_next p s ∙ ap (λ (x : List Entry). block_at (some (head? x))) after_is in
+            let z : Ok (Some b) ≡ block_at absent (some none) = sym e ∙ located_next p s ∙ ap (λ (x : List Entry). block_at absent (some (head? x))) after_is in
             apart cc
         go a said p s (nx ∷ cs) after_is =
             let o = passed_opens t i p in
             let whole : o.table.index ≡ s.before ++ (s.here ∷ (nx ∷ cs)) = sym o.same ∙ s.whole ∙ ap (λ (x : List Entry). s.before ++ (s.here ∷ x)) after_is in
-            let z : LocatedCase.Block next at len ≡ block_at (some (some nx)) = sym e ∙ located_next p s ∙ ap (λ (x : List Entry). block_at (some (head? x))) after_is in
-            block_said t o nx (rw whole (Memᴰ.append_right s.before (Memᴰ.tail (Memᴰ.head refl)))) z first_in said
+            let z : Ok (Some b) ≡ block_at absent (some (some nx)) = sym e ∙ located_next p s ∙ ap (λ (x : List Entry). block_at absent (some (head? x))) after_is in
+            block_said t o absent nx (rw whole (Memᴰ.append_right s.before (Memᴰ.tail (Memᴰ.head refl)))) z first_in said
             ∙ first_of_next t s.here nx cs (laid_from s.before (rw whole at o.laid))
 
 -- an answer of the block that the index names, or where it is none the first entry of the blocks after
-pub or_later : (t : List ℕ) {offset size : ℕ} (o : Opens t (record { offset = offset; size = size })) {place : ℕ} (s : Split o.table.index place) {start at len : ℕ} → LocatedCase.Block start at len ≡ block_at (some (some s.here))
-    → (says : List Entry → Option (Option Entry)) {a b : Answer} → Says t start at len says a → OrLater t offset size start a b → Passed t
+pub or_later : (t : List ℕ) {h : Handle} (o : Opens t h) (absent : Refusal) {place : ℕ} (s : Split o.table.index place) {block : Located} → Ok (Some block) ≡ block_at absent (some (some s.here))
+    → (says : List Entry → Option (Option Entry)) {a b : Answer} → Says t block.start block.handle says a → OrLater t h block.start a b → Passed t
     → b ≡ or_then (say_at s.here.start (handle_of s.here.value).offset (says (entries_at t (handle_of s.here.value)))) (found_or (head? (read_blocks t s.after)))
 unfolding block_at
-or_later t o s {start} {at} {len} z says said later p =
-    let x : start ≡ s.here.start = cc in
+or_later t o absent s {block} z says said later p =
+    let block_is : block ≡ record { start = s.here.start; handle = handle_of s.here.value } = cc in
+    let x : block.start ≡ s.here.start = ap (λ (y : Located). y.start) block_is in
     later p (record { before = s.before; here = s.here; after = s.after; whole = o.same ∙ s.whole; at = sym x })
-    ∙ ap (λ (c : Answer). or_then c (found_or (head? (read_blocks t s.after)))) (block_said t o s.here (rw s.whole (Memᴰ.append_right s.before (Memᴰ.head refl))) z says said)
+    ∙ ap (λ (c : Answer). or_then c (found_or (head? (read_blocks t s.after)))) (block_said t o absent s.here (rw s.whole (Memᴰ.append_right s.before (Memᴰ.head refl))) z says said)

@@ -7,9 +7,8 @@ use mathlib.Core.Bool.{Bool, true, false, not, false≢true}
 use mathlib.Core.Option.{Option, none, some, map}
 use lib.Dec.{T, eqb}
 use lib.ListN.{length, take}
-use Rattle.codec.specs.declared.blockhandle.OneHandle.{OneHandle}
-use Rattle.codec.specs.declared.blockhandle.OneHandle.TheVariants as OneCase
-use Rattle.codec.specs.Answers.{one_handle_answer}
+use Rattle.std.specs.Prelude as code
+use Rattle.codec.specs.Answers.{given}
 use Rattle.codec.specs.Bytes.{part, same_bytes}
 use Rattle.codec.specs.Maybe.{first}
 use Rattle.codec.specs.Varint.{Handle}
@@ -33,14 +32,14 @@ use Rattle.table.proofs.SearchLaws.{only_word, for_by_reach, lookup_beyond, look
 use Rattle.table.proofs.StandLaws.{sorted_tells, Laid, Settled}
 use Rattle.reader.specs.declared.table_reader.Entry as EntryStruct
 use Rattle.reader.specs.declared.table_reader.Found.TheVariants as FoundCase
-use Rattle.reader.specs.declared.table_reader.Held.{Held}
-use Rattle.reader.specs.declared.table_reader.Held.TheVariants as HeldCase
+use Rattle.std.specs.Prelude.{Result, Ok, Err, None, Some}
+use Rattle.table_block.specs.declared.refusal.Refusal.{Refusal}
+use Rattle.table_block.specs.declared.refusal.Refusal.TheVariants as Why
+use Rattle.table_block.specs.Refusals.{number}
+use Rattle.table_block.proofs.RefusalLaws.{refusal_number, ok_is, err_not_ok}
 use Rattle.reader.specs.declared.table_reader.Located.{Located}
-use Rattle.reader.specs.declared.table_reader.Located.TheVariants as LocatedCase
-use Rattle.reader.specs.declared.table_reader.Sought.{Sought}
-use Rattle.reader.specs.declared.table_reader.Sought.TheVariants as SoughtCase
-use Rattle.reader.specs.Answers.{entry_of, sought_of, looked_of}
-use Rattle.reader.specs.Parts.{Indexed, Named, block_at, Sees, say_at, Says, Holds, Tells, held_of, Fair, HeldIs, of_word, Kinded, IsKinded}
+use Rattle.reader.specs.Answers.{entry_of, Sought, sought_of, Looked, looked_of}
+use Rattle.reader.specs.Parts.{Indexed, Named, Locating, block_at, Sees, say_at, Says, Holds, Tells, Fair, HeldIs, of_word, Kinded, IsKinded}
 use Rattle.reader.proofs.AnswerLaws.{shows, by_entry, tells_none}
 use Rattle.reader.proofs.PassedLaws.{passed_opens}
 use Rattle.reader.proofs.LocateLaws.{block_said}
@@ -55,22 +54,22 @@ record Meta (t : List ℕ) (h : Handle) (o : Opened) : Type 0 where
   reads : readable (contents t h) ≡ some entries
   filter : filter_of t (bloom_handle (pairs_of entries)) ≡ pass o.filter
 
-meta : (t : List ℕ) {offset size : ℕ} → Named t offset size → {o : Opened} → opened t ≡ pass o → Meta t (record { offset = offset; size = size }) o
+meta : (t : List ℕ) {h : Handle} → Named t h → {o : Opened} → opened t ≡ pass o → Meta t h o
 unfolding opened
-meta t {offset} {size} n {o} op =
+meta t {h} n {o} op =
     passing _ _ op λ ft foot r.
     passing _ _ r λ ms meta r.
     passing _ _ r λ ixs index r.
     passing _ _ r λ f filter r.
-    let h_is : ft.metaindex ≡ record { offset = offset; size = size } = ap (λ (x : Footer). x.metaindex) (pass_same (sym foot ∙ n.reads)) ∙ n.metaindex in
+    let h_is : ft.metaindex ≡ h = ap (λ (x : Footer). x.metaindex) (pass_same (sym foot ∙ n.reads)) ∙ n.metaindex in
     record {
       entries = ms;
       reads = rw (← h_is) (formed_readable meta_block (contents t ft.metaindex) (sorted_tells meta_block t ft.metaindex meta).0);
       filter = filter ∙ ap (λ (x : Opened). pass x.filter) (pass_same r);
     }
 
-filter_none : (t : List ℕ) (o : Option Handle) {f : Option (List ℕ)} → filter_of t o ≡ pass f → one_handle_answer o ≡ OneCase.None → f ≡ none
-unfolding filter_of one_handle_answer
+filter_none : (t : List ℕ) (o : Option Handle) {f : Option (List ℕ)} → filter_of t o ≡ pass f → given o ≡ None → f ≡ none
+unfolding filter_of given
 filter_none t none e a = sym (pass_same e)
 filter_none t (some h) e a = apart cc
 
@@ -78,80 +77,77 @@ record Filtered (t : List ℕ) (h : Handle) (f : Option (List ℕ)) : Type 0 whe
   inside : ends_before (length t) h.offset h.size ≡ true
   is : f ≡ some (contents t h)
 
-filter_some : (t : List ℕ) (o : Option Handle) {f : Option (List ℕ)} {a b : ℕ} → filter_of t o ≡ pass f → one_handle_answer o ≡ OneCase.Handle a b → Filtered t (record { offset = a; size = b }) f
-unfolding filter_of one_handle_answer placed sealed
-filter_some t none e a_is = apart cc
-filter_some t (some h) {f} {a} {b} e a_is =
+filter_some : (t : List ℕ) (o : Option Handle) {f : Option (List ℕ)} {g : Handle} → filter_of t o ≡ pass f → given o ≡ Some g → Filtered t g f
+unfolding filter_of given placed sealed
+filter_some t none e g_is = apart cc
+filter_some t (some h) {f} {g} e g_is =
     asking _ _ _ e λ inside p.
     asking _ _ _ p λ intact p.
     asking _ _ _ p λ formed p.
-    let x : h.offset ≡ a = cc in
-    let y : h.size ≡ b = cc in
+    let x : h ≡ g = cc in
     let there : ends_before (length t) h.offset h.size ≡ true = is_true _ inside in
-    let r : Filtered t (record { offset = h.offset; size = h.size }) f = record { inside = there; is = sym (pass_same p) } in
-    rw (x, y) at r
+    let r : Filtered t h f = record { inside = there; is = sym (pass_same p) } in
+    rw x at r
 
-module _ (t : List ℕ) {at size : ℕ} (n : Named t at size) (offset : ℕ) (word : List ℕ) {s : List ℕ} {r : OneHandle} (s_is : s ≡ part t at size) (b : BloomRead s r) where
-  answered : {o : Opened} (op : opened t ≡ pass o) → r ≡ one_handle_answer (bloom_handle (pairs_of (meta t n op).entries))
+module _ (t : List ℕ) {at : Handle} (n : Named t at) (offset : ℕ) (word : List ℕ) {s : List ℕ} {r : code.Option Handle} (s_is : s ≡ part t at.offset at.size) (b : BloomRead s r) where
+  answered : {o : Opened} (op : opened t ≡ pass o) → r ≡ given (bloom_handle (pairs_of (meta t n op).entries))
   unfolding contents
   answered op = b.answer (meta t n op).entries (rw s_is (meta t n op).reads)
 
-  pub held_none : r ≡ OneCase.None → HeldIs t offset word HeldCase.May
-  unfolding held_of may_hold
+  pub held_none : r ≡ None → HeldIs t offset word (Ok true)
+  unfolding may_hold
   held_none e =
       record {
-        passed = λ p o op. sym (ap (λ (f : Option (List ℕ)). held_of (may_hold f offset word)) (filter_none t _ (meta t n op).filter (sym (answered op) ∙ e)));
+        passed = λ p o op. sym (ap (λ (f : Option (List ℕ)). Ok (may_hold f offset word)) (filter_none t _ (meta t n op).filter (sym (answered op) ∙ e)));
         fair = tt;
       }
 
-  module _ {from len : ℕ} (e : r ≡ OneCase.Handle from len) where
-    abbrev h : Handle
-    h = record { offset = from; size = len }
-
+  module _ {h : Handle} (e : r ≡ Some h) where
     there : {o : Opened} → opened t ≡ pass o → Filtered t h o.filter
     there op = filter_some t _ (meta t n op).filter (sym (answered op) ∙ e)
 
-    pub held_far : ends_before (length t) from len ≡ false → HeldIs t offset word (HeldCase.Refused 8)
+    pub held_far : ends_before (length t) h.offset h.size ≡ false → HeldIs t offset word (Err Why.Outside)
     unfolding listed
     held_far f = record { passed = λ p o op. absurd (false≢true (sym f ∙ (there op).inside)); fair = tt }
 
-    pub held_is : (m : Bool) {d : List ℕ} {x : ℕ} → d ≡ part t from len → x ≡ hash word → m ≡ may_match d offset x → HeldIs t offset word (held_of m)
-    unfolding held_of may_hold contents
+    pub held_is : (m : Bool) {d : List ℕ} {x : ℕ} → d ≡ part t h.offset h.size → x ≡ hash word → m ≡ may_match d offset x → HeldIs t offset word (Ok m)
+    unfolding may_hold contents
     held_is m {d} d_is x_is f =
         record {
-          passed = λ p o op. ap held_of (f ∙ ap (may_match d offset) x_is ∙ ap (λ (d : List ℕ). may_match d offset (hash word)) d_is ∙ sym (ap (λ (g : Option (List ℕ)). may_hold g offset word) (there op).is));
-          fair = fair m;
+          passed = λ p o op. ap Ok (f ∙ ap (may_match d offset) x_is ∙ ap (λ (d : List ℕ). may_match d offset (hash word)) d_is ∙ sym (ap (λ (g : Option (List ℕ)). may_hold g offset word) (there op).is));
+          fair = tt;
         }
-      where
-        fair : (m : Bool) → Fair t (held_of m)
-        fair true = tt
-        fair false = tt
 
 -- ---- the word and the kind
 
-kind_shown : (x : Table.Found) → sought_of (by_kind (some x)) ≡ SoughtCase.Entry (entry_of x)
+kind_shown : (x : Table.Found) → sought_of (by_kind (some x)) ≡ Ok (Some (entry_of x))
 unfolding sought_of
-kind_shown x = by_kind_lem (λ (a : Answer). sought_of a ≡ SoughtCase.Entry (entry_of x)) x (λ e. refl) (λ e. refl)
+kind_shown x = by_kind_lem (λ (a : Answer). sought_of a ≡ Ok (Some (entry_of x))) x (λ e. refl) (λ e. refl)
+
+-- an entry, or none where a test of it fails
+abbrev pub kept_if : EntryStruct.Entry → Bool → Sought
+kept_if e true = Ok (Some e)
+kept_if e false = Ok None
 
 module _ {r : Sought} (w : List ℕ) (a : Answer) (shown : r ≡ sought_of a) where
-  pub word_refused : {n : ℕ} → r ≡ SoughtCase.Refused n → SoughtCase.Refused n ≡ sought_of (of_word w a)
+  pub word_refused : {why : Refusal} → r ≡ Err why → Err why ≡ sought_of (of_word w a)
   unfolding sought_of of_word
-  word_refused e = rw (shows a shown e)
+  word_refused e = let s = shows a shown e in rw s.2 (ap Err (sym s.1))
 
-  pub word_none : r ≡ SoughtCase.None → SoughtCase.None ≡ sought_of (of_word w a)
+  pub word_none : r ≡ Ok None → Ok None ≡ sought_of (of_word w a)
   unfolding sought_of of_word
   word_none e = rw (shows a shown e)
 
-  module _ (b : List ℕ) {e : EntryStruct.Entry} (is : r ≡ SoughtCase.Entry e) where
+  module _ (b : List ℕ) {e : EntryStruct.Entry} (is : r ≡ Ok (Some e)) where
     -- by the bytes in the buffer
-    pub word_is : {m : Bool} → m ≡ same_bytes (user_of (take e.key_len b)) w → Holds a b → elim m [ true ↦ SoughtCase.Entry e | false ↦ SoughtCase.None ] ≡ sought_of (of_word w a)
+    pub word_is : {m : Bool} → m ≡ same_bytes (user_of (take e.key_len b)) w → Holds a b → kept_if e m ≡ sought_of (of_word w a)
     unfolding sought_of of_word
-    word_is {m} f holds = by_entry (λ (a : Answer). elim m [ true ↦ SoughtCase.Entry e | false ↦ SoughtCase.None ] ≡ sought_of (of_word w a)) b a shown is holds go go
+    word_is {m} f holds = by_entry (λ (a : Answer). kept_if e m ≡ sought_of (of_word w a)) b a shown is holds go go
       where
-        go : (x : Table.Found) → entry_of x ≡ e → take e.key_len b ≡ x.key → elim m [ true ↦ SoughtCase.Entry e | false ↦ SoughtCase.None ] ≡ sought_of (of_word w (found x))
+        go : (x : Table.Found) → entry_of x ≡ e → take e.key_len b ≡ x.key → kept_if e m ≡ sought_of (of_word w (found x))
         go x s k =
             let n : m ≡ same_bytes (user_of x.key) w = f ∙ ap (λ (k : List ℕ). same_bytes (user_of k) w) k in
-            rw n (test (same_bytes (user_of x.key) w) (λ t. rw (t, of_word) (ap SoughtCase.Entry (sym s) ∙ sym (kind_shown x))) (λ t. rw (t, of_word)))
+            rw n (test (same_bytes (user_of x.key) w) (λ t. rw (t, of_word) (ap (λ (y : EntryStruct.Entry). kept_if y true) (sym s) ∙ sym (kind_shown x))) (λ t. rw (t, of_word)))
 
 -- an answer of a word has its key where it was, lies in the table, and goes by its kind
 abbrev Kept : List ℕ → List ℕ → Answer → Type 0
@@ -168,27 +164,32 @@ word_kept t b w nothing h i = (tt, tt, tt)
 word_kept t b w (found x) h i = test (same_bytes (user_of x.key) w) (λ e. rw (e, of_word) (kept t b x h i)) (λ e. rw (e, of_word) (tt, tt, tt))
 word_kept t b w (deleted x) h i = test (same_bytes (user_of x.key) w) (λ e. rw (e, of_word) (kept t b x h i)) (λ e. rw (e, of_word) (tt, tt, tt))
 
+-- an entry as a deletion, or as a value
+abbrev pub kind_if : EntryStruct.Entry → Bool → Looked
+kind_if e true = Ok (FoundCase.Deleted e)
+kind_if e false = Ok (FoundCase.Entry e)
+
 -- the kind, as code reads it
 module _ {r : Sought} (a : Answer) (shown : r ≡ sought_of a) where
-  pub kind_refused : {n : ℕ} → r ≡ SoughtCase.Refused n → FoundCase.Refused n ≡ looked_of a
+  pub kind_refused : {why : Refusal} → r ≡ Err why → Err why ≡ looked_of a
   unfolding looked_of
-  kind_refused e = rw (shows a shown e)
+  kind_refused e = let s = shows a shown e in rw s.2 (ap Err (sym s.1))
 
-  pub kind_none : r ≡ SoughtCase.None → FoundCase.Absent ≡ looked_of a
+  pub kind_none : r ≡ Ok None → Ok FoundCase.Absent ≡ looked_of a
   unfolding looked_of
   kind_none e = rw (shows a shown e)
 
-  module _ (b : List ℕ) {e : EntryStruct.Entry} (is : r ≡ SoughtCase.Entry e) where
+  module _ (b : List ℕ) {e : EntryStruct.Entry} (is : r ≡ Ok (Some e)) where
     kind_key : {k : List ℕ} → take e.key_len b ≡ k → eqb (kind_of k) 0 ≡ eqb (tag_of (take e.key_len b) % 256) 0
     unfolding kind_of
     kind_key k_is = ap (λ (k : List ℕ). eqb (tag_of k % 256) 0) (sym k_is)
 
-    pub kind_is : {m : Bool} → eqb (tag_of (take e.key_len b) % 256) 0 ≡ m → Holds a b → Kinded a → elim m [ true ↦ FoundCase.Deleted e | false ↦ FoundCase.Entry e ] ≡ looked_of a
+    pub kind_is : {m : Bool} → eqb (tag_of (take e.key_len b) % 256) 0 ≡ m → Holds a b → Kinded a → kind_if e m ≡ looked_of a
     unfolding looked_of
     kind_is {m} f holds =
-        by_entry (λ (a : Answer). Kinded a → elim m [ true ↦ FoundCase.Deleted e | false ↦ FoundCase.Entry e ] ≡ looked_of a) b a shown is holds
-        (λ x s k kind. let n : m ≡ false = sym f ∙ sym (kind_key k) ∙ kind in rw n (ap FoundCase.Entry (sym s)))
-        (λ x s k kind. let n : m ≡ true = sym f ∙ sym (kind_key k) ∙ kind in rw n (ap FoundCase.Deleted (sym s)))
+        by_entry (λ (a : Answer). Kinded a → kind_if e m ≡ looked_of a) b a shown is holds
+        (λ x s k kind. let n : m ≡ false = sym f ∙ sym (kind_key k) ∙ kind in rw n (ap (λ (y : EntryStruct.Entry). kind_if y false) (sym s)))
+        (λ x s k kind. let n : m ≡ true = sym f ∙ sym (kind_key k) ∙ kind in rw n (ap (λ (y : EntryStruct.Entry). kind_if y true) (sym s)))
 
 -- ---- through the index
 
@@ -201,38 +202,34 @@ word_said p ix (some e) = test (same_bytes (user_of e.key) p.word) (λ t. rw (t,
 settled : {t : List ℕ} {f : Option (List ℕ)} {ix : Entry} {cs : List Entry} → Laid t f (ix ∷ cs) → Settled t f ix cs
 settled (Laid.cons s l) = s
 
-module _ (t : List ℕ) {offset size : ℕ} (i : Indexed t offset size) (p : Point) where
+module _ (t : List ℕ) {h : Handle} (i : Indexed t h) (p : Point) where
   abbrev says : Answer
   says = lookup_says t p
 
-  module _ {r : Located} (ir : Sees t offset size (seek_in p) r) where
-    pub look_none : {b : List ℕ} → r ≡ LocatedCase.None → Tells sought_of t (IsKinded t says) SoughtCase.None b
+  module _ {absent : Refusal} {r : Locating} (ir : Sees t h absent (seek_in p) r) where
+    pub look_none : {b : List ℕ} → r ≡ Ok None → Tells sought_of t (IsKinded t says) (Ok None) b
     unfolding by_kind lookup_says
     look_none e = tells_none t (IsKinded t says) (λ q. let o = passed_opens t i q in sym (ap by_kind (lookup_beyond t p o.table q o.opens (all_below t i p ir e q))), tt)
 
-    module _ {start at len : ℕ} (e : r ≡ LocatedCase.Block start at len) where
-      module _ {m : Held} (held : HeldIs t at p.word m) where
-        pub look_unheld : {n : ℕ} {b : List ℕ} → m ≡ HeldCase.Refused n → Tells sought_of t (IsKinded t says) (SoughtCase.Refused n) b
-        unfolding held_of sought_of
-        look_unheld {n} f =
+    module _ {block : Located} (e : r ≡ Ok (Some block)) where
+      module _ {m : Result Bool Refusal} (held : HeldIs t block.handle.offset p.word m) where
+        pub look_unheld : {why : Refusal} {b : List ℕ} → m ≡ Err why → Tells sought_of t (IsKinded t says) (Err why) b
+        unfolding sought_of
+        look_unheld {why} f =
             record {
-              answer = refused n;
-              shown = refl;
+              answer = refused (number why);
+              shown = ap Err (sym (refusal_number why));
               holds = tt;
               inside = subst (Fair t) f held.fair;
-              is = (λ q. let o = passed_opens t i q in go (may_hold o.table.filter at p.word) (sym f ∙ held.passed q o.table o.opens), tt);
+              is = (λ q. let o = passed_opens t i q in err_not_ok (sym f ∙ held.passed q o.table o.opens), tt);
             }
-          where
-            go : {A : Type 0} (b : Bool) → HeldCase.Refused n ≡ held_of b → A
-            go true e = apart cc
-            go false e = apart cc
 
-        pub look_denied : {b : List ℕ} → m ≡ HeldCase.Not → Tells sought_of t (IsKinded t says) SoughtCase.None b
-        unfolding block_at held_of by_kind lookup_says
+        pub look_denied : {b : List ℕ} → m ≡ Ok false → Tells sought_of t (IsKinded t says) (Ok None) b
+        unfolding block_at by_kind lookup_says
         look_denied f = tells_none t (IsKinded t says) (go, tt)
           where
-            denied : (b : Bool) → HeldCase.Not ≡ held_of b → T (not b)
-            denied true e = apart cc
+            denied : (b : Bool) → false ≡ b → T (not b)
+            denied true e = absurd (false≢true e)
             denied false e = tt
 
             go : Passed t → nothing ≡ by_kind (lookup_of t p)
@@ -240,12 +237,13 @@ module _ (t : List ℕ) {offset size : ℕ} (i : Indexed t offset size) (p : Poi
                 let o = passed_opens t i q in
                 let n = block_split t i p ir e q in
                 let s = n.0 in
-                let z : LocatedCase.Block start at len ≡ block_at (some (some s.here)) = n.1 in
-                let y : at ≡ (handle_of s.here.value).offset = cc in
-                let h : HeldCase.Not ≡ held_of (may_hold o.table.filter at p.word) = sym f ∙ held.passed q o.table o.opens in
+                let z : Ok (Some block) ≡ block_at absent (some (some s.here)) = n.1 in
+                let block_is : block ≡ record { start = s.here.start; handle = handle_of s.here.value } = cc in
+                let y : block.handle.offset ≡ (handle_of s.here.value).offset = ap (λ (b : Located). b.handle.offset) block_is in
+                let h : false ≡ may_hold o.table.filter block.handle.offset p.word = ok_is (sym f ∙ held.passed q o.table o.opens) in
                 sym (ap by_kind (filter_law t p o.table q o.opens s (denied (may_hold o.table.filter (handle_of s.here.value).offset p.word) (rw y at h))))
 
-      pub look_block : {h q : Sought} {k : List ℕ} → Tells sought_of t (Says t start at len (seek_in p)) h k → ((a : Answer) → h ≡ sought_of a → Holds a k → q ≡ sought_of (of_word p.word a)) → Tells sought_of t (IsKinded t says) q k
+      pub look_block : {v q : Sought} {k : List ℕ} → Tells sought_of t (Says t block.start block.handle (seek_in p)) v k → ((a : Answer) → v ≡ sought_of a → Holds a k → q ≡ sought_of (of_word p.word a)) → Tells sought_of t (IsKinded t says) q k
       unfolding by_kind lookup_says seek_in founds_of
       look_block {k = k} w of =
           let a = w.answer in
@@ -259,7 +257,7 @@ module _ (t : List ℕ) {offset size : ℕ} (i : Indexed t offset size) (p : Poi
               let s = n.0 in
               let ix = s.here in
               let es = entries_at t (handle_of ix.value) in
-              ap (of_word p.word) (block_said t o ix (rw s.whole (Memᴰ.append_right s.before (Memᴰ.head refl))) n.1 (seek_in p) w.is)
+              ap (of_word p.word) (block_said t o absent ix (rw s.whole (Memᴰ.append_right s.before (Memᴰ.head refl))) n.1 (seek_in p) w.is)
               ∙ word_said p ix (first (reaches p) es)
               ∙ ap (λ (m : Option _). by_kind (only_word p m)) (sym (first_found p ix es))
               ∙ ap by_kind (sym (for_by_reach p (founds_of t ix) (settled (laid_from s.before (rw s.whole at o.laid))).rising))

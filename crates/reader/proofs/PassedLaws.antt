@@ -100,9 +100,9 @@ index_tested t h {es} p =
       handles = all_imp (λ ix u. one_handle_lem ix.value (and_r (within 9 1032 (length ix.key)) _ u)) (all_entries (entry_fits index_block) es fits);
     }
 
-pub passed_opens : (t : List ℕ) {offset size : ℕ} → Indexed t offset size → Passed t → Opens t (record { offset = offset; size = size })
+pub passed_opens : (t : List ℕ) {h : Handle} → Indexed t h → Passed t → Opens t h
 unfolding full_check opened
-passed_opens t {offset} {size} i p =
+passed_opens t {h} i p =
     passing _ _ p λ o op q.
     passing _ _ op λ ft foot r.
     passing _ _ r λ ms meta r.
@@ -110,7 +110,7 @@ passed_opens t {offset} {size} i p =
     passing _ _ r λ f filter r.
     let o_is = pass_same r in
     let ixs_is : ixs ≡ o.index = ap (λ (x : Opened). x.index) o_is in
-    let h_is : ft.index ≡ record { offset = offset; size = size } = ap (λ (x : Footer). x.index) (pass_same (sym foot ∙ i.reads)) ∙ i.index in
+    let h_is : ft.index ≡ h = ap (λ (x : Footer). x.index) (pass_same (sym foot ∙ i.reads)) ∙ i.index in
     let ir = index_tested t ft.index index in
     record {
       table = o;
@@ -123,7 +123,7 @@ passed_opens t {offset} {size} i p =
     }
 
 -- a passed table has a footer
-pub passed_indexed : (t : List ℕ) → Passed t → (f : Footer) × Indexed t f.index.offset f.index.size
+pub passed_indexed : (t : List ℕ) → Passed t → (f : Footer) × Indexed t f.index
 unfolding full_check opened
 passed_indexed t p =
     passing _ _ p λ o op q.

@@ -17,9 +17,8 @@ use Rattle.table.specs.Runs.{overlay}
 use Rattle.table.proofs.OverlayLaws.{overlay_front, overlay_long}
 use Rattle.table.proofs.PlaceLaws.{after_means_lem}
 use Rattle.reader.specs.declared.table_reader.Entry.{Entry}
-use Rattle.reader.specs.declared.table_reader.Sought.{Sought}
-use Rattle.reader.specs.declared.table_reader.Sought.TheVariants as SoughtCase
-use Rattle.reader.specs.Answers.{entry_of, sought_of}
+use Rattle.std.specs.Prelude.{Ok, None, Some}
+use Rattle.reader.specs.Answers.{entry_of, Sought, sought_of}
 use Rattle.reader.specs.Walk.{Visit, visit_of, Walk, onward, walk_means}
 use Rattle.reader.proofs.AnswerLaws.{listed_key}
 
@@ -74,7 +73,7 @@ unfolding step_says
 step_after t bs x cs e = rw (after_means_lem t bs x cs e, step_says)
 
 module _ (t : List ℕ) (passed : Passed t) where
-  tour : (bs cs : List Found) → plain t ≡ bs ++ cs → {r last : Sought} {k : List ℕ} {vs : List Visit} → Walk t r k vs last → Shown t cs r k → (vs ≡ map visit_of cs) × (last ≡ SoughtCase.None)
+  tour : (bs cs : List Found) → plain t ≡ bs ++ cs → {r last : Sought} {k : List ℕ} {vs : List Visit} → Walk t r k vs last → Shown t cs r k → (vs ≡ map visit_of cs) × (last ≡ Ok None)
   unfolding found_or sought_of entry_of visit_of
   tour bs [] e Walk.done s = (refl, refl)
   tour bs [] e Walk.stuck s = let z = s.answer in apart cc
@@ -82,7 +81,7 @@ module _ (t : List ℕ) (passed : Passed t) where
   tour bs (c ∷ cs) e Walk.done s = let z = s.answer in apart cc
   tour bs (c ∷ cs) e Walk.stuck s = let z = s.answer in apart cc
   tour bs (c ∷ cs) e (Walk.more {e = en} {k = k} {k' = k'} {r = r} {vs = vs} w ws) s =
-      let z : SoughtCase.Entry en ≡ SoughtCase.Entry (entry_of c) = s.answer in
+      let z : ◌≡◌ {A = Sought} (Ok (Some en)) (Ok (Some (entry_of c))) = s.answer in
       let en_is : en ≡ entry_of c = cc in
       let n : en.key_len ≡ length c.key = ap (λ (y : Entry). y.key_len) en_is in
       let key_is : take en.key_len k ≡ c.key = ap (λ (m : ℕ). take m k) n ∙ s.buffer c refl in

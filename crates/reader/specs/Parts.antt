@@ -1,6 +1,7 @@
 -- What the parts of a read answer: where the index says a block is, what is found in one block, and what a table tells with a key buffer of
 -- the call's own.
-use Rattle.std.specs.Prelude.{ℕ, ◌+◌, ◌≤◌, ◌≡◌, Bool, true, false, T, eqb, length, take}
+use Rattle.std.specs.Prelude.{ℕ, ◌+◌, ◌≤◌, ◌≡◌, Bool, true, false, T, eqb, length, take, Result, Ok, Err, None, Some}
+use Rattle.std.specs.Prelude as code
 use mathlib.Core.List.{List, ◌∷◌, ◌++◌, head?}
 use Rattle.std.proofs.Math.Option.{Option, none, some}
 use Rattle.codec.specs.Bytes.{part, same_bytes}
@@ -8,78 +9,101 @@ use Rattle.codec.specs.Varint.{Handle, one_handle}
 use Rattle.keys.specs.Order.{user_of, kind_of}
 use Rattle.blocks.specs.Block.{Entry}
 use Rattle.blocks.specs.Search.{readable, seek_in, first_in, in_order}
-use Rattle.block_reader.specs.declared.block.Found as BlockFound
-use Rattle.block_reader.specs.declared.block.Found.TheVariants as FoundCase
-use Rattle.block_reader.specs.Said.{place_in}
-use Rattle.table.specs.Checked.{pass}
+use Rattle.block_reader.specs.declared.block.BlockError.TheVariants as BlockCase
+use Rattle.block_reader.specs.Said.{place_in, Found}
+use Rattle.table_block.specs.declared.footer.Footer as Declared
+use Rattle.table_block.specs.declared.refusal.Refusal.{Refusal}
+use Rattle.table_block.specs.declared.refusal.Refusal.TheVariants as Why
+use Rattle.table_block.specs.Refusals.{number, refusal}
+use Rattle.table.specs.Checked.{pass, refuse}
 use Rattle.table.specs.Table.{Footer, footer, ends_before, handle_of, may_hold, Opened, opened, entries_at, read_blocks}
 use Rattle.table.specs.Promise.{Passed}
 use Rattle.table.specs.Reads.{Answer, refused, nothing, found, deleted, found_or, by_kind, listed}
 use Rattle.reader.specs.declared.table_reader.Ask.{Ask}
 use Rattle.reader.specs.declared.table_reader.Ask.TheVariants as AskCase
-use Rattle.reader.specs.declared.table_reader.Held.{Held}
-use Rattle.reader.specs.declared.table_reader.Held.TheVariants as HeldCase
 use Rattle.reader.specs.declared.table_reader.Located.{Located}
-use Rattle.reader.specs.declared.table_reader.Located.TheVariants as LocatedCase
-use Rattle.reader.specs.declared.table_reader.Sought.{Sought}
-use Rattle.reader.specs.declared.table_reader.Sought.TheVariants as SoughtCase
+use Rattle.reader.specs.Answers.{Sought}
 
--- what is asked of a block's entries, with the word of a target
-abbrev pub asked : Ask → List ℕ → List Entry → Option (Option Entry)
-asked AskCase.First word = first_in
-asked (AskCase.Place at which) word = place_in which at
-asked (AskCase.Target edition) word = seek_in (record { word = word; edition = edition })
+-- what is asked of a block's entries
+abbrev pub asked : Ask → List Entry → Option (Option Entry)
+asked AskCase.First = first_in
+asked (AskCase.Place at which) = place_in which at
+asked (AskCase.Target word edition) = seek_in (record { word = word.now; edition = edition })
 
 -- ---- the index
 
+-- a footer was read: this one
+pub record Footed (t : List ℕ) (f : Declared.Footer) : Type 0 where
+  pub reads : footer t ≡ pass (record { metaindex = f.metaindex; index = f.index })
+
+-- or it is refused
+pub record Unread (t : List ℕ) (why : Refusal) : Type 0 where
+  pub reason : ℕ
+  pub reads : footer t ≡ refuse reason
+  pub is : refusal reason ≡ why
+
 -- a footer was read that says where the index is
-pub record Indexed (t : List ℕ) (offset size : ℕ) : Type 0 where
+pub record Indexed (t : List ℕ) (h : Handle) : Type 0 where
   pub foot : Footer
   pub reads : footer t ≡ pass foot
-  pub index : foot.index ≡ record { offset = offset; size = size }
+  pub index : foot.index ≡ h
 
 -- and where the metaindex is
-pub record Named (t : List ℕ) (offset size : ℕ) : Type 0 where
+pub record Named (t : List ℕ) (h : Handle) : Type 0 where
   pub foot : Footer
   pub reads : footer t ≡ pass foot
-  pub metaindex : foot.metaindex ≡ record { offset = offset; size = size }
+  pub metaindex : foot.metaindex ≡ h
 
 -- an entry that was found has its value within n bytes
-abbrev pub Inside : ℕ → BlockFound.Found → Type 0
-Inside n (FoundCase.Entry start len at v) = at + v ≤ n
-Inside n FoundCase.None = Unit {0}
-Inside n FoundCase.NoPlace = Unit {0}
-Inside n FoundCase.Bad = Unit {0}
+abbrev pub Inside : ℕ → Found → Type 0
+Inside n (Ok (Some e)) = e.value_at + e.value_len ≤ n
+Inside n (Ok None) = Unit {0}
+Inside n (Err e) = Unit {0}
+
+-- what is found through the index: a block, none, or why it is refused
+abbrev pub Locating : Type 0
+Locating = Result (code.Option Located) Refusal
 
 -- the block at a handle, in a table of len bytes
-unfoldable pub by_handle : ℕ → ℕ → Option Handle → Located
-by_handle len start none = LocatedCase.Refused 10
+unfoldable pub by_handle : ℕ → ℕ → Option Handle → Result Located Refusal
+by_handle len start none = Err Why.Malformed
 by_handle len start (some h) =
-    elim (ends_before len h.offset h.size) [ true ↦ LocatedCase.Block start h.offset h.size | false ↦ LocatedCase.Refused 8 ]
+    elim (ends_before len h.offset h.size) [
+      | true ↦ Ok (record { start = start; handle = h })
+      | false ↦ Err Why.Outside
+    ]
 
--- and by what was found in an index block
-unfoldable pub located_of : ℕ → List ℕ → BlockFound.Found → Located
-located_of len s (FoundCase.Entry start n at v) = by_handle len start (one_handle (part s at v))
-located_of len s FoundCase.None = LocatedCase.None
-located_of len s FoundCase.NoPlace = LocatedCase.NoPlace
-located_of len s FoundCase.Bad = LocatedCase.Refused 10
+-- as what is found through the index
+abbrev pub one_located : Result Located Refusal → Locating
+one_located (Ok b) = Ok (Some b)
+one_located (Err e) = Err e
+
+-- and by what was found in an index block, with what it is refused where no entry starts at the place
+unfoldable pub located_of : ℕ → List ℕ → Refusal → Found → Locating
+located_of len s absent (Ok (Some e)) = one_located (by_handle len e.start (one_handle (part s e.value_at e.value_len)))
+located_of len s absent (Ok None) = Ok None
+located_of len s absent (Err BlockCase.NoPlace) = Err absent
+located_of len s absent (Err BlockCase.Bad) = Err Why.Malformed
 
 -- the block of the index entry that is said
-unfoldable pub block_at : Option (Option Entry) → Located
-block_at none = LocatedCase.NoPlace
-block_at (some none) = LocatedCase.None
-block_at (some (some ix)) = LocatedCase.Block ix.start (handle_of ix.value).offset (handle_of ix.value).size
+unfoldable pub block_at : Refusal → Option (Option Entry) → Locating
+block_at absent none = Err absent
+block_at absent (some none) = Ok None
+block_at absent (some (some ix)) = Ok (Some (record { start = ix.start; handle = handle_of ix.value }))
+
+-- a refusal is of the listed ones
+abbrev pub Listed : Refusal → Type 0
+Listed e = (t : List ℕ) → T (listed t (refused (number e)))
 
 -- a block lies before the footer, and a refusal is of the listed ones
-abbrev pub Sound : ℕ → Located → Type 0
-Sound len (LocatedCase.Block start offset size) = ends_before len offset size ≡ true
-Sound len LocatedCase.None = Unit {0}
-Sound len LocatedCase.NoPlace = Unit {0}
-Sound len (LocatedCase.Refused n) = (t : List ℕ) → T (listed t (refused n))
+abbrev pub Sound : ℕ → Locating → Type 0
+Sound len (Ok (Some b)) = ends_before len b.handle.offset b.handle.size ≡ true
+Sound len (Ok None) = Unit {0}
+Sound len (Err e) = Listed e
 
 -- what is found through the index at a handle: of a passed table, what is said of its entries
-pub record Sees (t : List ℕ) (offset size : ℕ) (says : List Entry → Option (Option Entry)) (r : Located) : Type 0 where
-  pub passed : Passed t → r ≡ block_at (says (entries_at t (record { offset = offset; size = size })))
+pub record Sees (t : List ℕ) (h : Handle) (absent : Refusal) (says : List Entry → Option (Option Entry)) (r : Locating) : Type 0 where
+  pub passed : Passed t → r ≡ block_at absent (says (entries_at t h))
   pub sound : Sound (length t) r
 
 -- ---- a data block
@@ -92,16 +116,16 @@ say_at index offset (some (some e)) =
     found (record { index_start = index; start = e.start; key = e.key; value_at = offset + e.value_at; value = e.value })
 
 -- so of the block at a handle, where it can be read and its entries are in order
-abbrev pub Says : List ℕ → ℕ → ℕ → ℕ → (List Entry → Option (Option Entry)) → Answer → Type 0
-Says t index offset size says a = (es : List Entry) → readable (part t offset size) ≡ some es → in_order es ≡ true → a ≡ say_at index offset (says es)
+abbrev pub Says : List ℕ → ℕ → Handle → (List Entry → Option (Option Entry)) → Answer → Type 0
+Says t index h says a = (es : List Entry) → readable (part t h.offset h.size) ≡ some es → in_order es ≡ true → a ≡ say_at index h.offset (says es)
 
 -- what was found in the block at an offset, as an entry of the table
-unfoldable pub hit_of : ℕ → ℕ → BlockFound.Found → Sought
-hit_of index offset (FoundCase.Entry start n at v) =
-    SoughtCase.Entry (record { place = record { index = index; entry = start }; key_len = n; value_at = offset + at; value_len = v })
-hit_of index offset FoundCase.None = SoughtCase.None
-hit_of index offset FoundCase.NoPlace = SoughtCase.Refused 14
-hit_of index offset FoundCase.Bad = SoughtCase.Refused 10
+unfoldable pub hit_of : ℕ → ℕ → Found → Sought
+hit_of index offset (Ok (Some e)) =
+    Ok (Some (record { place = record { index = index; entry = e.start }; key_len = e.key_len; value_at = offset + e.value_at; value_len = e.value_len }))
+hit_of index offset (Ok None) = Ok None
+hit_of index offset (Err BlockCase.NoPlace) = Err Why.NoPlace
+hit_of index offset (Err BlockCase.Bad) = Err Why.Malformed
 
 -- ---- the table, with a key buffer of the call's own
 
@@ -129,9 +153,9 @@ pub record Split (ixs : List Entry) (start : ℕ) : Type 0 where
   pub at : here.start ≡ start
 
 -- of a passed table: the first entry of all blocks after the one whose index entry starts at a place
-abbrev pub IsLater : List ℕ → ℕ → ℕ → ℕ → Answer → Type 0
-IsLater t offset size start a =
-    Passed t → (s : Split (entries_at t (record { offset = offset; size = size })) start) → a ≡ found_or (head? (read_blocks t s.after))
+abbrev pub IsLater : List ℕ → Handle → ℕ → Answer → Type 0
+IsLater t h start a =
+    Passed t → (s : Split (entries_at t h) start) → a ≡ found_or (head? (read_blocks t s.after))
 
 -- of a passed table: an answer, or where it is none that entry
 unfoldable pub or_then : Answer → Answer → Answer
@@ -141,9 +165,9 @@ or_then (found x) b = found x
 or_then (deleted x) b = deleted x
 
 -- and so of an answer a
-abbrev pub OrLater : List ℕ → ℕ → ℕ → ℕ → Answer → Answer → Type 0
-OrLater t offset size start a b =
-    Passed t → (s : Split (entries_at t (record { offset = offset; size = size })) start) → b ≡ or_then a (found_or (head? (read_blocks t s.after)))
+abbrev pub OrLater : List ℕ → Handle → ℕ → Answer → Answer → Type 0
+OrLater t h start a b =
+    Passed t → (s : Split (entries_at t h) start) → b ≡ or_then a (found_or (head? (read_blocks t s.after)))
 
 -- of a passed table: what it says
 abbrev pub Is : List ℕ → Answer → Answer → Type 0
@@ -151,26 +175,20 @@ Is t says a = Passed t → a ≡ says
 
 -- an entry's key has at most 1,032 bytes
 abbrev pub Short : Sought → Type 0
-Short (SoughtCase.Entry e) = e.key_len ≤ 1032
-Short SoughtCase.None = Unit {0}
-Short (SoughtCase.Refused n) = Unit {0}
+Short (Ok (Some e)) = e.key_len ≤ 1032
+Short (Ok None) = Unit {0}
+Short (Err e) = Unit {0}
 
 -- ---- a lookup
 
--- whether a block may hold a word, as code answers it
-unfoldable pub held_of : Bool → Held
-held_of true = HeldCase.May
-held_of false = HeldCase.Not
-
 -- a refusal is of the listed ones
-abbrev pub Fair : List ℕ → Held → Type 0
-Fair t (HeldCase.Refused n) = T (listed t (refused n))
-Fair t HeldCase.May = Unit {0}
-Fair t HeldCase.Not = Unit {0}
+abbrev pub Fair : List ℕ → Result Bool Refusal → Type 0
+Fair t (Ok b) = Unit {0}
+Fair t (Err e) = T (listed t (refused (number e)))
 
--- what the filter says of the block at an offset and a word: of a passed table what its filter does
-pub record HeldIs (t : List ℕ) (offset : ℕ) (word : List ℕ) (r : Held) : Type 0 where
-  pub passed : Passed t → (o : Opened) → opened t ≡ pass o → r ≡ held_of (may_hold o.filter offset word)
+-- whether the block at an offset may hold a word, by the filter: of a passed table what its filter says
+pub record HeldIs (t : List ℕ) (offset : ℕ) (word : List ℕ) (r : Result Bool Refusal) : Type 0 where
+  pub passed : Passed t → (o : Opened) → opened t ≡ pass o → r ≡ Ok (may_hold o.filter offset word)
   pub fair : Fair t r
 
 -- an entry of a word, by its kind; none where it is of another

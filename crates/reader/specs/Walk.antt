@@ -1,13 +1,12 @@
 -- A walk by the calls' contracts alone: a seek, and then steps until there is none.
-use Rattle.std.specs.Prelude.{ℕ, ◌-◌, ◌≤◌, ◌<◌, ◌^◌, ◌≡◌, List, [], ◌∷◌, map, true, false, length, take, get_or}
+use Rattle.std.specs.Prelude.{ℕ, ◌-◌, ◌≤◌, ◌<◌, ◌^◌, ◌≡◌, List, [], ◌∷◌, map, true, false, length, take, get_or, None, Some, Ok, Err}
 use Rattle.keys.specs.Order.{Point}
 use Rattle.table.specs.Table.{Found, plain}
 use Rattle.table.specs.Promise.{Passed, not_below}
 use Rattle.table.specs.Reads.{point_fits}
 use Rattle.reader.specs.declared.table_reader.Entry.{Entry}
-use Rattle.reader.specs.declared.table_reader.Sought.{Sought}
-use Rattle.reader.specs.declared.table_reader.Sought.TheVariants as SoughtCase
-use Rattle.reader.specs.Answers.{entry_of, Seeks, Steps}
+use Rattle.table_block.specs.declared.refusal.Refusal.{Refusal}
+use Rattle.reader.specs.Answers.{entry_of, Sought, Seeks, Steps}
 
 -- what a call shows of an entry: its numbers, and the key at the front of the key buffer
 pub record Visit : Type 0 where
@@ -20,10 +19,10 @@ visit_of x = record { entry = entry_of x; key = x.key }
 
 -- steps from an answer and a key buffer on, until there is none or one is refused; what they show, and the last answer
 pub data Walk (t : List ℕ) : Sought → List ℕ → List Visit → Sought → Type 0 where
-  done : {k : List ℕ} → Walk t SoughtCase.None k [] SoughtCase.None
-  stuck : {n : ℕ} {k : List ℕ} → Walk t (SoughtCase.Refused n) k [] (SoughtCase.Refused n)
+  done : {k : List ℕ} → Walk t (Ok None) k [] (Ok None)
+  stuck : {e : Refusal} {k : List ℕ} → Walk t (Err e) k [] (Err e)
   more : {e : Entry} {k k' : List ℕ} {r last : Sought} {vs : List Visit} → Steps t e.place.index e.place.entry k r k' → Walk t r k' vs last
-      → Walk t (SoughtCase.Entry e) k (record { entry = e; key = take e.key_len k } ∷ vs) last
+      → Walk t (Ok (Some e)) k (record { entry = e; key = take e.key_len k } ∷ vs) last
 
 -- the entries from the first that is not below a point on
 unfoldable pub onward : Point → List Found → List Found
@@ -34,7 +33,7 @@ onward p (x ∷ xs) = elim (not_below p x) [ true ↦ x ∷ xs | false ↦ onwar
 abbrev pub walk_means : Type 0
 walk_means = (t : List ℕ) → Passed t → (p : Point) (k : List ℕ) → point_fits p ≡ true → 1032 ≤ length k
     → (r : Sought) (k' : List ℕ) → Seeks t p k r k' → (vs : List Visit) (last : Sought) → Walk t r k' vs last
-    → (vs ≡ map visit_of (onward p (plain t))) × (last ≡ SoughtCase.None)
+    → (vs ≡ map visit_of (onward p (plain t))) × (last ≡ Ok None)
 
 -- the least point: a word of one byte 0, at the greatest edition
 unfoldable pub least_point : Point

@@ -1,30 +1,38 @@
 // Reading a table: footer, handles and structure are tested, checksums are not. A table that the full check passes is read as
 // its plain reading says; on any other the calls end, and what they give lies in the table.
-ghost use Rattle.std.specs.Prelude.{◌≡◌, true, ◌-◌, ◌≤◌, ◌^◌, T, length};
+ghost use Rattle.std.specs.Prelude.{◌≡◌, true, ◌-◌, ◌≤◌, ◌^◌, T, MatchResult, length};
 ghost use Rattle.codec.specs.Bytes.{part};
 ghost use Rattle.codec.specs.Varint.{one_handle};
-ghost use Rattle.blocks.specs.Block.{Entry};
 ghost use Rattle.blocks.specs.Search.{in_order};
 ghost use Rattle.block_reader.specs.Said.{Said};
 ghost use Rattle.table.specs.Table.{ends_before};
 ghost use Rattle.table.specs.Reads.{Answer, point_fits, listed, buffer_after, seek_says, lookup_says, step_says};
 ghost use Rattle.reader.specs.Answers.{sought_of, looked_of, Seeks, Looks, Steps};
-ghost use Rattle.reader.specs.Parts.{asked, Indexed, Inside, located_of, by_handle, hit_of, Holds, Tells, Sees, Says, IsLater, OrLater, Is, Short, Named, HeldIs, of_word, Kinded, IsKinded};
+ghost use Rattle.reader.specs.Parts.{asked, Footed, Unread, Inside, located_of, by_handle, hit_of, Holds, Tells, Listed, Sees, Says, IsLater, OrLater, Is, Short, HeldIs, of_word, Kinded, IsKinded};
 
-use block_reader::block::Which;
-use codec::blockhandle::OneHandle;
+use block_reader::block;
+use block_reader::block::{BlockError, Which};
+use bloom::filter::bloom_hash;
+use codec::blockhandle::{BlockHandle, one_handle};
+use codec::limits::within;
+use codec::put::put_bytes;
+use filter_block::filter_block::may_match;
+use keys::cmp::same;
+use keys::key_types::{tag_of, user_key};
 use table_block::footer;
-use table_block::footer::FooterRead;
+use table_block::footer::Footer;
+use table_block::refusal::Refusal;
+use table_block::table_block::bloom_handle;
 
 // Where an entry stands: where its index entry starts in the index block, and where it starts in its data block.
-#[derive(Clone, Copy)]
+#[derive(Clone, Copy, Debug, PartialEq, Eq)]
 pub struct Place {
     pub index: usize,
     pub entry: usize,
 }
 
 // An entry of a table: its place, how many bytes its key has, where in the table its value starts and how many bytes that has.
-#[derive(Clone, Copy)]
+#[derive(Clone, Copy, Debug, PartialEq, Eq)]
 pub struct Entry {
     pub place: Place,
     pub key_len: usize,
@@ -33,50 +41,37 @@ pub struct Entry {
 }
 
 // What a seek or a step answers.
-#[derive(Clone, Copy)]
-pub enum Sought {
-    Entry(Entry),
-    None,
-    Refused(u32),
-}
+pub type Sought = Result<Option<Entry>, Refusal>;
 
-// What a lookup answers.
-#[derive(Clone, Copy)]
+// What a lookup finds.
+#[derive(Clone, Copy, Debug, PartialEq, Eq)]
 pub enum Found {
     Entry(Entry),
     Deleted(Entry),
     Absent,
-    Refused(u32),
 }
 
-// Whether a block may hold a word, or a refusal.
+// Where the block of an index entry stands, and where that entry starts in the index block.
 #[derive(Clone, Copy)]
-enum Held {
-    May,
-    Not,
-    Refused(u32),
+struct Located {
+    start: usize,
+    handle: BlockHandle,
 }
 
-// Where the block of an index entry stands; or that there is none, that no index entry starts at the place, or a refusal.
+// A table and its footer.
 #[derive(Clone, Copy)]
-enum Located {
-    Block {
-        start: usize,
-        offset: usize,
-        size: usize,
-    },
-    None,
-    NoPlace,
-    Refused(u32),
+struct Table<'a> {
+    bytes: &'a [u8],
+    footer: Footer,
+    ghost ends: { Footed bytes.now footer },
 }
 
-// What is asked of a block: its first entry, the entry at a place or the one after it, or the first that is not below a target,
-// given by its edition. The word of a target is lent beside it.
+// What is asked of a block: its first entry, the entry at a place or the one after it, or the first that is not below a target.
 #[derive(Clone, Copy)]
-enum Ask {
+enum Ask<'a> {
     First,
     Place(usize, Which),
-    Target(u64),
+    Target(&'a [u8], u64),
 }
 
 // A part of a table, what of it lies there.
@@ -95,258 +90,240 @@ fn part_of<'a>(table: &'a [u8], from: usize, len: usize) -> &'a [u8]
 }
 
 // The block that an index entry's value names, in a table of len bytes.
-fn by_handle(len: usize, start: usize, value: &[u8]) -> Located
+fn by_handle(len: usize, start: usize, value: &[u8]) -> Result<Located, Refusal>
     ensures { result ≡ by_handle len start (one_handle value.now) }
 {
-    match codec::blockhandle::one_handle(value) {
-        OneHandle::None => Located::Refused(10),
-        OneHandle::Handle { offset, size } => {
-            if footer::placed(len, offset, size) {
-                Located::Block {
-                    start,
-                    offset,
-                    size,
-                }
-            } else {
-                Located::Refused(8)
-            }
-        }
+    let handle = one_handle(value).ok_or(Refusal::Malformed)?;
+    if !footer::placed(len, handle) {
+        return Err(Refusal::Outside);
     }
+    Ok(Located { start, handle })
 }
 
-// The same for what was found in the index block.
-fn locate(len: usize, index: &[u8], found: block_reader::block::Found) -> Located
+// The same for what was found in the index block, with what it is refused where no entry starts at the place.
+#[tactic(auto, unfolding(crate::specs::Parts::located_of))]
+fn locate(
+    len: usize,
+    index: &[u8],
+    absent: Refusal,
+    found: Result<Option<block::Entry>, BlockError>,
+) -> Result<Option<Located>, Refusal>
     requires { Inside (length index.now) found }
-    ensures { result ≡ located_of len index.now found }
+    ensures { result ≡ located_of len index.now absent found }
 {
     match found {
-        block_reader::block::Found::Bad => Located::Refused(10),
-        block_reader::block::Found::None => Located::None,
-        block_reader::block::Found::NoPlace => Located::NoPlace,
-        block_reader::block::Found::Entry {
-            start,
-            key_len: _,
-            value_at,
-            value_len,
-        } => {
-            let to = value_at + value_len;
-            by_handle(len, start, &index[value_at..to])
+        Err(BlockError::Bad) => Err(Refusal::Malformed),
+        Err(BlockError::NoPlace) => Err(absent),
+        Ok(None) => Ok(None),
+        Ok(Some(entry)) => {
+            let to = entry.value_at + entry.value_len;
+            let block = by_handle(len, entry.start, &index[entry.value_at..to])?;
+            Ok(Some(block))
         }
     }
 }
 
 // What was found in the data block at an offset, whose index entry starts at a place, as an entry of the table.
-fn hit(index: usize, offset: usize, found: block_reader::block::Found) -> Sought
+#[tactic(auto, unfolding(crate::specs::Parts::hit_of))]
+fn hit(index: usize, offset: usize, found: Result<Option<block::Entry>, BlockError>) -> Sought
     requires { Inside (2 ^ 64 - 1 - offset) found }
     ensures { result ≡ hit_of index offset found }
 {
     match found {
-        block_reader::block::Found::Bad => Sought::Refused(10),
-        block_reader::block::Found::None => Sought::None,
-        block_reader::block::Found::NoPlace => Sought::Refused(14),
-        block_reader::block::Found::Entry {
-            start,
-            key_len,
-            value_at,
-            value_len,
-        } => Sought::Entry(Entry {
+        Err(BlockError::Bad) => Err(Refusal::Malformed),
+        Err(BlockError::NoPlace) => Err(Refusal::NoPlace),
+        Ok(None) => Ok(None),
+        Ok(Some(entry)) => Ok(Some(Entry {
             place: Place {
                 index,
-                entry: start,
+                entry: entry.start,
             },
-            key_len,
-            value_at: offset + value_at,
-            value_len,
-        }),
+            key_len: entry.key_len,
+            value_at: offset + entry.value_at,
+            value_len: entry.value_len,
+        })),
     }
 }
 
 // What is asked for, in the bytes of one block.
-fn find_in(block: &[u8], ask: Ask, word: &[u8], buf: &mut [u8]) -> block_reader::block::Found
-    ensures { Said block.now (asked ask word.now) in_order buf.old result buf.new }
+fn find_in(
+    bytes: &[u8],
+    ask: Ask<'_>,
+    buf: &mut [u8; 1032],
+) -> Result<Option<block::Entry>, BlockError>
+    ensures { Said bytes.now (asked ask.entry) in_order buf.old result buf.new }
 {
     match ask {
-        Ask::First => block_reader::block::first(block, buf),
-        Ask::Place(at, which) => block_reader::block::by_place(block, at, which, buf),
-        Ask::Target(edition) => block_reader::block::seek(block, word, edition, buf),
+        Ask::First => block::first(bytes, buf),
+        Ask::Place(at, which) => block::by_place(bytes, at, which, buf),
+        Ask::Target(word, edition) => block::seek(bytes, word, edition, buf),
     }
 }
 
-// The block of the index entry that is asked for.
-fn find_index(
-    table: &[u8],
-    index_at: usize,
-    index_size: usize,
-    ask: Ask,
-    word: &[u8],
-    buf: &mut [u8],
-) -> Located
-    requires { Indexed table.now index_at index_size × (length buf.old ≡ 1032) }
-    ensures { Sees table.now index_at index_size (asked ask word.now) result }
+// An entry found, if it is of a word.
+fn of_word(answer: Sought, word: &[u8], buf: &[u8; 1032]) -> Sought
+    requires { Short answer }
+    ensures { (a : Answer) → answer ≡ sought_of a → Holds a buf.now → result ≡ sought_of (of_word word.now a) }
 {
-    let index = part_of(table, index_at, index_size);
-    locate(table.len(), index, find_in(index, ask, word, buf))
-}
-
-// What is asked for, in one block of the table.
-fn find_block(
-    table: &[u8],
-    index: usize,
-    offset: usize,
-    size: usize,
-    ask: Ask,
-    word: &[u8],
-    buf: &mut [u8],
-) -> Sought
-    requires { (ends_before (length table.now) offset size ≡ true) × (length buf.old ≡ 1032) }
-    ensures { Tells sought_of table.now (Says table.now index offset size (asked ask word.now)) result buf.new }
-{
-    let block = part_of(table, offset, size);
-    hit(index, offset, find_in(block, ask, word, buf))
-}
-
-// The first entry of the block after the one whose index entry starts at a place.
-fn first_after(
-    table: &[u8],
-    index_at: usize,
-    index_size: usize,
-    start: usize,
-    buf: &mut [u8],
-) -> Sought
-    requires { Indexed table.now index_at index_size × (length buf.old ≡ 1032) }
-    ensures { Tells sought_of table.now (IsLater table.now index_at index_size start) result buf.new }
-{
-    let after = Ask::Place(start, Which::After);
-    match find_index(table, index_at, index_size, after, b"", buf) {
-        Located::Refused(n) => Sought::Refused(n),
-        Located::None => Sought::None,
-        Located::NoPlace => Sought::Refused(10),
-        Located::Block {
-            start: next,
-            offset,
-            size,
-        } => find_block(table, next, offset, size, Ask::First, b"", buf),
+    let Some(found) = answer? else {
+        return Ok(None);
+    };
+    if !same(user_key(&buf[..found.key_len]), word) {
+        return Ok(None);
     }
+    Ok(Some(found))
 }
 
-// An answer as it is, or where it is none the first entry of the block after.
-fn or_later(
-    answer: Sought,
-    table: &[u8],
-    index_at: usize,
-    index_size: usize,
-    start: usize,
-    buf: &mut [u8],
-) -> Sought
-    requires { Indexed table.now index_at index_size × (length buf.old ≡ 1032) }
-    ensures { (a : Answer) → answer ≡ sought_of a → Holds a buf.old → T (listed table.now a) → Tells sought_of table.now (OrLater table.now index_at index_size start a) result buf.new }
-{
-    match answer {
-        Sought::Entry(entry) => Sought::Entry(entry),
-        Sought::Refused(n) => Sought::Refused(n),
-        Sought::None => first_after(table, index_at, index_size, start, buf),
+impl<'a> Table<'a> {
+    fn open(bytes: &'a [u8]) -> Result<Self, Refusal>
+        ensures { MatchResult result (λ t. t.bytes.now ≡ bytes.now) (Unread bytes.now) }
+    {
+        let footer = footer::decode(bytes)?;
+        Ok(Table { bytes, footer })
     }
-}
 
-// The first entry that is not below a target: in the block that the index names, or the first of the block after.
-fn find(
-    table: &[u8],
-    index_at: usize,
-    index_size: usize,
-    word: &[u8],
-    edition: u64,
-    buf: &mut [u8],
-) -> Sought
-    requires { Indexed table.now index_at index_size × (length buf.old ≡ 1032) }
-    ensures { Tells sought_of table.now (Is table.now (seek_says table.now (record { word = word.entry.now; edition = edition }))) result buf.new }
-{
-    match find_index(table, index_at, index_size, Ask::Target(edition), word, buf) {
-        Located::Refused(n) => Sought::Refused(n),
-        Located::None => Sought::None,
-        Located::NoPlace => Sought::Refused(10),
-        Located::Block {
-            start,
-            offset,
-            size,
-        } => {
-            let here = find_block(table, start, offset, size, Ask::Target(edition), word, buf);
-            or_later(here, table, index_at, index_size, start, buf)
+    // The block of the index entry that is asked for, with what it is refused where no entry starts at the place.
+    fn find_index(
+        &self,
+        ask: Ask<'_>,
+        absent: Refusal,
+        buf: &mut [u8; 1032],
+    ) -> Result<Option<Located>, Refusal>
+        requires { Listed absent }
+        ensures { Sees self.now.bytes.now self.now.footer.index absent (asked ask.entry) result }
+    {
+        let at = self.footer.index;
+        let index = part_of(self.bytes, at.offset, at.size);
+        let found = find_in(index, ask, buf);
+        locate(self.bytes.len(), index, absent, found)
+    }
+
+    // What is asked for, in one block of the table.
+    fn find_block(&self, block: Located, ask: Ask<'_>, buf: &mut [u8; 1032]) -> Sought
+        requires { ends_before (length self.now.bytes.now) block.handle.offset block.handle.size ≡ true }
+        ensures { Tells sought_of self.now.bytes.now (Says self.now.bytes.now block.start block.handle (asked ask.entry)) result buf.new }
+    {
+        let at = block.handle;
+        let bytes = part_of(self.bytes, at.offset, at.size);
+        let found = find_in(bytes, ask, buf);
+        hit(block.start, at.offset, found)
+    }
+
+    // The first entry of the block after the one whose index entry starts at a place.
+    fn first_after(&self, start: usize, buf: &mut [u8; 1032]) -> Sought
+        ensures { Tells sought_of self.now.bytes.now (IsLater self.now.bytes.now self.now.footer.index start) result buf.new }
+    {
+        let after = Ask::Place(start, Which::After);
+        let Some(next) = self.find_index(after, Refusal::Malformed, buf)? else {
+            return Ok(None);
+        };
+        self.find_block(next, Ask::First, buf)
+    }
+
+    // An answer as it is, or where it is none the first entry of the block after.
+    fn or_later(&self, answer: Sought, start: usize, buf: &mut [u8; 1032]) -> Sought
+        ensures { (a : Answer) → answer ≡ sought_of a → Holds a buf.old → T (listed self.now.bytes.now a) → Tells sought_of self.now.bytes.now (OrLater self.now.bytes.now self.now.footer.index start a) result buf.new }
+    {
+        let Some(here) = answer? else {
+            return self.first_after(start, buf);
+        };
+        Ok(Some(here))
+    }
+
+    // The first entry that is not below a target: in the block that the index names, or the first of the block after.
+    fn find(&self, word: &[u8], edition: u64, buf: &mut [u8; 1032]) -> Sought
+        ensures { Tells sought_of self.now.bytes.now (Is self.now.bytes.now (seek_says self.now.bytes.now (record { word = word.entry.now; edition = edition }))) result buf.new }
+    {
+        let target = Ask::Target(word, edition);
+        let Some(block) = self.find_index(target, Refusal::Malformed, buf)? else {
+            return Ok(None);
+        };
+        let here = self.find_block(block, target, buf);
+        self.or_later(here, block.start, buf)
+    }
+
+    // The entry after the one at a place, in its block, or the first of the block after.
+    fn follow(&self, place: Place, buf: &mut [u8; 1032]) -> Sought
+        ensures { Tells sought_of self.now.bytes.now (Is self.now.bytes.now (step_says self.now.bytes.now place.index place.entry)) result buf.new }
+    {
+        let here = Ask::Place(place.index, Which::Here);
+        let Some(block) = self.find_index(here, Refusal::NoPlace, buf)? else {
+            return Err(Refusal::NoPlace);
+        };
+        let after = Ask::Place(place.entry, Which::After);
+        let next = self.find_block(block, after, buf);
+        self.or_later(next, block.start, buf)
+    }
+
+    // Whether the filter that the metaindex names, if it names one, lets the data block at an offset hold a word.
+    fn may_hold(&self, offset: usize, word: &[u8]) -> Result<bool, Refusal>
+        ensures { HeldIs self.now.bytes.now offset word.now result }
+    {
+        let at = self.footer.metaindex;
+        let metaindex = part_of(self.bytes, at.offset, at.size);
+        let Some(at) = bloom_handle(metaindex) else {
+            return Ok(true);
+        };
+        if !footer::placed(self.bytes.len(), at) {
+            return Err(Refusal::Outside);
         }
+        let filters = part_of(self.bytes, at.offset, at.size);
+        let hash = bloom_hash(word);
+        Ok(may_match(filters, offset, hash))
     }
-}
 
-// The entry after the one at a place, in its block, or the first of the block after.
-fn follow(table: &[u8], index_at: usize, index_size: usize, place: Place, buf: &mut [u8]) -> Sought
-    requires { Indexed table.now index_at index_size × (length buf.old ≡ 1032) }
-    ensures { Tells sought_of table.now (Is table.now (step_says table.now place.index place.entry)) result buf.new }
-{
-    let here = Ask::Place(place.index, Which::Here);
-    match find_index(table, index_at, index_size, here, b"", buf) {
-        Located::Refused(n) => Sought::Refused(n),
-        Located::None => Sought::Refused(14),
-        Located::NoPlace => Sought::Refused(14),
-        Located::Block {
-            start,
-            offset,
-            size,
-        } => {
-            let after = Ask::Place(place.entry, Which::After);
-            let next = find_block(table, start, offset, size, after, b"", buf);
-            or_later(next, table, index_at, index_size, start, buf)
+    // The newest entry of a word no newer than an edition: the filter is asked of the one block that the index names, and only
+    // that block is read.
+    fn look(&self, word: &[u8], edition: u64, buf: &mut [u8; 1032]) -> Sought
+        ensures { Tells sought_of self.now.bytes.now (IsKinded self.now.bytes.now (lookup_says self.now.bytes.now (record { word = word.entry.now; edition = edition }))) result buf.new }
+    {
+        let target = Ask::Target(word, edition);
+        let Some(block) = self.find_index(target, Refusal::Malformed, buf)? else {
+            return Ok(None);
+        };
+        if !self.may_hold(block.handle.offset, word)? {
+            return Ok(None);
         }
+        let here = self.find_block(block, target, buf);
+        of_word(here, word, buf)
     }
 }
 
 // An answer, with an entry's key from a buffer handed over to the front of the key buffer.
-fn hand(answer: Sought, buf: &[u8], key: &mut [u8]) -> Sought
-    requires { (length buf.now ≡ 1032) × (1032 ≤ length key.old) × Short answer }
+fn hand(answer: Sought, buf: &[u8; 1032], key: &mut [u8]) -> Sought
+    requires { (1032 ≤ length key.old) × Short answer }
     ensures same { result ≡ answer }
     ensures handed { (a : Answer) → answer ≡ sought_of a → Holds a buf.now → key.new ≡ buffer_after a key.old }
 {
-    match answer {
-        Sought::Refused(n) => Sought::Refused(n),
-        Sought::None => Sought::None,
-        Sought::Entry(entry) => {
-            let n = entry.key_len;
-            codec::put::put_bytes(key, 0, &buf[..n]);
-            Sought::Entry(entry)
-        }
-    }
+    let Some(entry) = answer? else {
+        return Ok(None);
+    };
+    let _ = put_bytes(key, 0, &buf[..entry.key_len]);
+    Ok(Some(entry))
 }
 
 // Whether a word and an edition are within the limits.
+#[tactic(auto, unfolding(table::specs::Reads::point_fits))]
 fn fits(word: &[u8], edition: u64) -> bool
     ensures { result ≡ point_fits (record { word = word.entry.now; edition = edition }) }
 {
-    if codec::limits::within(1, 1024, word.len()) {
-        return edition < 0x0100_0000_0000_0000;
-    }
-    false
+    within(1, 1024, word.len()) && edition < 0x0100_0000_0000_0000
 }
 
 // The least entry that is not below a target, a word and an edition.
 pub fn seek(table: &[u8], word: &[u8], edition: u64, key: &mut [u8]) -> Sought
     ensures { Seeks table.now (record { word = word.entry.now; edition = edition }) key.old result key.new }
 {
-    if fits(word, edition) {} else {
-        return Sought::Refused(3);
+    if !fits(word, edition) {
+        return Err(Refusal::Limits);
     }
     if key.len() < 1032 {
-        return Sought::Refused(2);
+        return Err(Refusal::Short);
     }
-    match footer::decode(table) {
-        FooterRead::Refused(n) => Sought::Refused(n),
-        FooterRead::Footer {
-            meta_offset: _,
-            meta_size: _,
-            index_offset,
-            index_size,
-        } => {
-            let mut buf = [0u8; 1032];
-            let found = find(table, index_offset, index_size, word, edition, &mut buf);
-            hand(found, &buf, key)
-        }
-    }
+    let table = Table::open(table)?;
+    let mut buf = [0u8; 1032];
+    let found = table.find(word, edition, &mut buf);
+    hand(found, &buf, key)
 }
 
 // The entry after the one at a place.
@@ -354,148 +331,43 @@ pub fn step(table: &[u8], place: Place, key: &mut [u8]) -> Sought
     ensures { Steps table.now place.index place.entry key.old result key.new }
 {
     if key.len() < 1032 {
-        return Sought::Refused(2);
+        return Err(Refusal::Short);
     }
-    match footer::decode(table) {
-        FooterRead::Refused(n) => Sought::Refused(n),
-        FooterRead::Footer {
-            meta_offset: _,
-            meta_size: _,
-            index_offset,
-            index_size,
-        } => {
-            let mut buf = [0u8; 1032];
-            let found = follow(table, index_offset, index_size, place, &mut buf);
-            hand(found, &buf, key)
-        }
-    }
-}
-
-// Whether the filter that the metaindex names, if it names one, lets the data block at an offset hold a word.
-fn may_hold(table: &[u8], meta_at: usize, meta_size: usize, offset: usize, word: &[u8]) -> Held
-    requires { Named table.now meta_at meta_size }
-    ensures { HeldIs table.now offset word.now result }
-{
-    match table_block::table_block::bloom_handle(part_of(table, meta_at, meta_size)) {
-        OneHandle::None => Held::May,
-        OneHandle::Handle { offset: from, size } => {
-            if footer::placed(table.len(), from, size) {} else {
-                return Held::Refused(8);
-            }
-            let hash = bloom::filter::bloom_hash(word);
-            if filter_block::filter_block::may_match(part_of(table, from, size), offset, hash) {
-                Held::May
-            } else {
-                Held::Not
-            }
-        }
-    }
-}
-
-// An entry found, if it is of a word.
-fn of_word(answer: Sought, word: &[u8], buf: &[u8]) -> Sought
-    requires { (length buf.now ≡ 1032) × Short answer }
-    ensures { (a : Answer) → answer ≡ sought_of a → Holds a buf.now → result ≡ sought_of (of_word word.now a) }
-{
-    match answer {
-        Sought::Refused(n) => Sought::Refused(n),
-        Sought::None => Sought::None,
-        Sought::Entry(entry) => {
-            let n = entry.key_len;
-            if keys::cmp::same(keys::key_types::user_key(&buf[..n]), word) {
-                Sought::Entry(entry)
-            } else {
-                Sought::None
-            }
-        }
-    }
-}
-
-// The newest entry of a word no newer than an edition: the filter is asked of the one block that the index names, and only that
-// block is read.
-fn look(
-    table: &[u8],
-    meta_at: usize,
-    meta_size: usize,
-    index_at: usize,
-    index_size: usize,
-    word: &[u8],
-    edition: u64,
-    buf: &mut [u8],
-) -> Sought
-    requires { Named table.now meta_at meta_size × Indexed table.now index_at index_size × (length buf.old ≡ 1032) }
-    ensures { Tells sought_of table.now (IsKinded table.now (lookup_says table.now (record { word = word.entry.now; edition = edition }))) result buf.new }
-{
-    match find_index(table, index_at, index_size, Ask::Target(edition), word, buf) {
-        Located::Refused(n) => Sought::Refused(n),
-        Located::None => Sought::None,
-        Located::NoPlace => Sought::Refused(10),
-        Located::Block {
-            start,
-            offset,
-            size,
-        } => match may_hold(table, meta_at, meta_size, offset, word) {
-            Held::Refused(n) => Sought::Refused(n),
-            Held::Not => Sought::None,
-            Held::May => {
-                let here = find_block(table, start, offset, size, Ask::Target(edition), word, buf);
-                of_word(here, word, buf)
-            }
-        },
-    }
+    let table = Table::open(table)?;
+    let mut buf = [0u8; 1032];
+    let found = table.follow(place, &mut buf);
+    hand(found, &buf, key)
 }
 
 // A lookup's answer by an entry's kind: kind byte 0 is a deletion, any other a value.
-fn by_kind(answer: Sought, buf: &[u8]) -> Found
-    requires { (length buf.now ≡ 1032) × Short answer }
+fn by_kind(answer: Sought, buf: &[u8; 1032]) -> Result<Found, Refusal>
+    requires { Short answer }
     ensures { (a : Answer) → answer ≡ sought_of a → Holds a buf.now → Kinded a → result ≡ looked_of a }
 {
-    match answer {
-        Sought::Refused(n) => Found::Refused(n),
-        Sought::None => Found::Absent,
-        Sought::Entry(entry) => {
-            let n = entry.key_len;
-            if keys::key_types::tag_of(&buf[..n]) % 256 == 0 {
-                Found::Deleted(entry)
-            } else {
-                Found::Entry(entry)
-            }
-        }
+    let Some(entry) = answer? else {
+        return Ok(Found::Absent);
+    };
+    let deletion = tag_of(&buf[..entry.key_len]) % 256 == 0;
+    if deletion {
+        return Ok(Found::Deleted(entry));
     }
+    Ok(Found::Entry(entry))
 }
 
 // The newest entry of a word that is no newer than an edition.
-pub fn lookup(table: &[u8], word: &[u8], edition: u64, key: &mut [u8]) -> Found
+pub fn lookup(table: &[u8], word: &[u8], edition: u64, key: &mut [u8]) -> Result<Found, Refusal>
     ensures { Looks table.now (record { word = word.entry.now; edition = edition }) key.old result key.new }
 {
-    if fits(word, edition) {} else {
-        return Found::Refused(3);
+    if !fits(word, edition) {
+        return Err(Refusal::Limits);
     }
     if key.len() < 1032 {
-        return Found::Refused(2);
+        return Err(Refusal::Short);
     }
-    match footer::decode(table) {
-        FooterRead::Refused(n) => Found::Refused(n),
-        FooterRead::Footer {
-            meta_offset,
-            meta_size,
-            index_offset,
-            index_size,
-        } => {
-            let mut buf = [0u8; 1032];
-            let found = look(
-                table,
-                meta_offset,
-                meta_size,
-                index_offset,
-                index_size,
-                word,
-                edition,
-                &mut buf,
-            );
-            by_kind(hand(found, &buf, key), &buf)
-        }
-    }
+    let table = Table::open(table)?;
+    let mut buf = [0u8; 1032];
+    let found = table.look(word, edition, &mut buf);
+    by_kind(hand(found, &buf, key), &buf)
 }
 
 // The value of an entry, as a part of the table: what lies there, if the entry is of another table.

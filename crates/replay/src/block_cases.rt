@@ -1,360 +1,188 @@
 // Commands on blocks: one is built or loaded, and the others damage it or read it. What is loaded may be a table as well.
-use crate::fields::front;
-use crate::show::Out;
-use crate::walk::{Over, Walked};
-use crate::{fields, show, walk};
+use crate::cases::Loaded;
+use crate::fields::Fields;
+use crate::show::{Bytes, Key, Out, Part, changed};
+use crate::walk;
 use block_builder::block_builder::BlockBuilder;
 use block_reader::block as rows;
-use block_reader::block::{EntryRead, Found, Kind, Which};
-use codec::put::Written;
+use block_reader::block::{BlockError, Entry, Kind, Which};
 use std::io;
+use std::io::Write;
 
-#[derive(Clone, Copy)]
-struct Grown {
-    next: usize,
-    block: BlockBuilder,
-}
-
-// Adds the key and the value at a place of the line.
+// Adds the key and the value of the next two fields.
 fn add(
     to: &mut Out,
-    b: BlockBuilder,
-    s: &[u8],
-    at: usize,
+    block: &mut BlockBuilder,
+    line: &mut Fields,
     out: &mut [u8],
     restarts: &mut [u32],
-) -> io::Result<Grown> {
+) -> io::Result<()> {
     let mut k = [0u8; 1100];
     let mut v = [0u8; 33000];
-    let fk = fields::field(s, at, &mut k);
-    let fv = fields::field(s, fk.next, &mut v);
-    let r = b.add(out, 0, restarts, front(&k, fk.len), front(&v, fv.len));
-    show::yes(to, r.fits, b" refused", b"")?;
-    let grown = r.block;
-    Ok(Grown {
-        next: fv.next,
-        block: grown,
-    })
-}
-
-// Adds one after the other, up to the end of the line.
-fn add_all(
-    to: &mut Out,
-    s: &[u8],
-    at: usize,
-    interval: usize,
-    out: &mut [u8],
-    restarts: &mut [u32],
-) -> io::Result<BlockBuilder> {
-    let mut b = BlockBuilder::new(interval);
-    let mut i = at;
-    let mut n: usize = 0;
-    while n < 65536 && i < s.len() {
-        let r = add(to, b, s, i, out, restarts)?;
-        let grown = r.block;
-        b = grown;
-        i = r.next;
-        n = n + 1;
+    let key = line.field(&mut k);
+    let value = line.field(&mut v);
+    if block.add(out, 0, restarts, key, value).is_err() {
+        write!(to, " refused")?;
     }
-    Ok(b)
+    Ok(())
 }
 
-// The block finished, and how long it is.
-fn finished(to: &mut Out, b: BlockBuilder, out: &mut [u8], restarts: &[u32]) -> io::Result<usize> {
-    let estimate = b.size_estimate();
-    match b.finish(out, 0, restarts) {
-        Written::NoRoom => {
-            show::say(to, b" no room")?;
-            Ok(0)
-        }
-        Written::At(n) => {
-            show::say(to, b" ")?;
-            show::part(to, out, 0, n)?;
-            show::yes(to, estimate == n, b" not the size", b"")?;
-            Ok(n)
-        }
-    }
-}
-
-fn built(
-    to: &mut Out,
-    s: &[u8],
-    at: usize,
-    interval: usize,
-    out: &mut [u8],
-    restarts: &mut [u32],
-) -> io::Result<usize> {
-    let b = add_all(to, s, at, interval, out, restarts)?;
-    finished(to, b, out, restarts)
-}
-
-// A block at an interval, in runs of so many bytes and so many restarts.
-fn build(to: &mut Out, s: &[u8], at: usize, out: &mut [u8]) -> io::Result<usize> {
-    let interval = fields::number(s, at);
-    let bytes = fields::number(s, interval.next);
-    let marks = fields::number(s, bytes.next);
-    let room = bytes.value;
-    let numbers = marks.value;
+// A block at an interval, in runs of so many bytes and so many restarts, of the entries up to the end of the line.
+pub fn build(to: &mut Out, line: &mut Fields, loaded: &mut Loaded) -> io::Result<()> {
+    let mut block = BlockBuilder::new(line.number());
     let mut restarts = [0u32; 2048];
-    if room <= out.len() && numbers <= 2048 {
-        built(
-            to,
-            s,
-            marks.next,
-            interval.value,
-            &mut out[0..room],
-            &mut restarts[0..numbers],
-        )
-    } else {
-        Ok(0)
+    loaded.len = 0;
+    let Some(out) = loaded.run.as_mut_slice().get_mut(..line.number()) else {
+        return Ok(());
+    };
+    let Some(restarts) = restarts.get_mut(..line.number()) else {
+        return Ok(());
+    };
+    for _ in 0..65536 {
+        if line.is_empty() {
+            break;
+        }
+        add(to, &mut block, line, out, restarts)?;
     }
+    let Ok(len) = block.finish(out, 0, restarts) else {
+        return write!(to, " no room");
+    };
+    loaded.len = len;
+    write!(to, " {}", Part::new(out, 0, len))?;
+    if block.size_estimate() != len {
+        write!(to, " not the size")?;
+    }
+    Ok(())
 }
 
-fn load(to: &mut Out, s: &[u8], at: usize, out: &mut [u8]) -> io::Result<usize> {
-    let f = fields::field(s, at, out);
-    show::spaced(to, f.len)?;
-    Ok(f.len)
+pub fn load(to: &mut Out, line: &mut Fields, loaded: &mut Loaded) -> io::Result<()> {
+    let len = line.field(loaded.run.as_mut_slice()).len();
+    loaded.len = len;
+    write!(to, " {len}")
 }
 
-fn damage(s: &[u8], at: usize, out: &mut [u8]) {
-    let place = fields::number(s, at);
-    let bits = fields::number(s, place.next);
-    let p = place.value;
-    if p < out.len() {
-        out[p] = out[p] ^ ((bits.value % 256) as u8);
-    }
+// Changes bits of the byte at a place.
+pub fn damage(line: &mut Fields, loaded: &mut Loaded) {
+    let at = line.number();
+    let bits = (line.number() % 256) as u8;
+    loaded.flip(at, bits);
 }
 
 // Bytes written over those at a place.
-fn patch(s: &[u8], at: usize, out: &mut [u8]) {
-    let place = fields::number(s, at);
-    let p = place.value;
-    if p < out.len() {
-        fields::field(s, place.next, &mut out[p..]);
+pub fn patch(line: &mut Fields, loaded: &mut Loaded) {
+    if let Some(rest) = loaded.run.as_mut_slice().get_mut(line.number()..) {
+        line.field(rest);
     }
 }
 
-fn formed(to: &mut Out, b: &[u8], kind: Kind) -> io::Result<()> {
-    show::yes(to, rows::is_formed(b, kind), b" 0", b" 1")
+pub fn kinds(to: &mut Out, block: &[u8]) -> io::Result<()> {
+    for kind in [Kind::Data, Kind::Index, Kind::Metaindex] {
+        write!(to, " {}", u8::from(rows::is_formed(block, kind)))?;
+    }
+    Ok(())
 }
 
-fn kinds(to: &mut Out, b: &[u8]) -> io::Result<()> {
-    formed(to, b, Kind::Data)?;
-    formed(to, b, Kind::Index)?;
-    formed(to, b, Kind::Metaindex)
-}
+// What a read of a block answers.
+type Found = Result<Option<Entry>, BlockError>;
 
 // An entry: where it starts, its key, where its value starts, and the value.
-fn entry(
-    to: &mut Out,
-    b: &[u8],
-    key: &[u8],
-    start: usize,
-    key_len: usize,
-    value_at: usize,
-    value_len: usize,
-) -> io::Result<()> {
-    show::spaced(to, start)?;
-    show::say(to, b" ")?;
-    show::key(to, key, key_len)?;
-    show::say(to, b" at ")?;
-    show::number(to, value_at)?;
-    show::say(to, b" ")?;
-    show::part(to, b, value_at, value_len)
-}
-
-fn found(to: &mut Out, b: &[u8], key: &[u8], f: Found) -> io::Result<()> {
-    match f {
-        Found::None => show::nothing(to, b" none", key),
-        Found::NoPlace => show::nothing(to, b" no place", key),
-        Found::Bad => show::nothing(to, b" bad", key),
-        Found::Entry {
-            start,
-            key_len,
-            value_at,
-            value_len,
-        } => entry(to, b, key, start, key_len, value_at, value_len),
+fn found(to: &mut Out, block: &[u8], run: &[u8], found: Found) -> io::Result<()> {
+    match found {
+        Ok(None) => write!(to, " none{}", changed(run)),
+        Err(BlockError::NoPlace) => write!(to, " no place{}", changed(run)),
+        Err(BlockError::Bad) => write!(to, " bad{}", changed(run)),
+        Ok(Some(e)) => {
+            let key = Key {
+                run,
+                len: e.key_len,
+            };
+            let value = Part::new(block, e.value_at, e.value_len);
+            write!(to, " {} {key} at {} {value}", e.start, e.value_at)
+        }
     }
 }
 
-fn seek(to: &mut Out, s: &[u8], at: usize, b: &[u8]) -> io::Result<()> {
+pub fn seek(to: &mut Out, line: &mut Fields, block: &[u8]) -> io::Result<()> {
     let mut w = [0u8; 1100];
     let mut key = [0xee_u8; 1032];
-    let f = fields::field(s, at, &mut w);
-    let sequence = fields::number(s, f.next);
-    let r = rows::seek(b, front(&w, f.len), sequence.value as u64, &mut key);
-    found(to, b, &key, r)
+    let word = line.field(&mut w);
+    let sequence = line.number() as u64;
+    let f = rows::seek(block, word, sequence, &mut key);
+    found(to, block, &key, f)
 }
 
-fn next(to: &mut Out, s: &[u8], at: usize, b: &[u8]) -> io::Result<()> {
+pub fn next(to: &mut Out, line: &mut Fields, block: &[u8]) -> io::Result<()> {
     let mut key = [0xee_u8; 1032];
-    let place = fields::number(s, at);
-    let r = rows::by_place(b, place.value, Which::After, &mut key);
-    found(to, b, &key, r)
+    let f = rows::by_place(block, line.number(), Which::After, &mut key);
+    found(to, block, &key, f)
 }
 
-// The first entry of a walk, or the one after a place.
-pub fn reached(b: &[u8], at: usize, n: usize, key: &mut [u8]) -> Found {
-    if n == 0 {
-        rows::first(b, key)
-    } else {
-        rows::by_place(b, at, Which::After, key)
-    }
+// All entries, of which the first six are shown.
+pub fn walk(to: &mut Out, block: &[u8]) -> io::Result<()> {
+    walk::walk(to, |to, place, n| {
+        let mut key = [0xee_u8; 1032];
+        let f = match place {
+            None => rows::first(block, &mut key),
+            Some(at) => rows::by_place(block, at, Which::After, &mut key),
+        };
+        visit(to, block, &key, f, n)
+    })
 }
 
-// One entry of a walk, shown if it is among the first six.
-pub fn visit(to: &mut Out, b: &[u8], f: Found, key: &[u8], n: usize) -> io::Result<Walked> {
+fn visit(to: &mut Out, block: &[u8], key: &[u8], f: Found, n: usize) -> io::Result<Option<usize>> {
     match f {
-        Found::Entry {
-            start,
-            key_len,
-            value_at,
-            value_len,
-        } => {
+        Ok(Some(e)) => {
             if n < 6 {
-                entry(to, b, key, start, key_len, value_at, value_len)?;
+                found(to, block, key, f)?;
             }
-            Ok(Walked {
-                more: true,
-                index: 0,
-                entry: start,
-                sum: 0,
-            })
+            Ok(Some(e.start))
         }
-        Found::None => Ok(walk::nowhere(0)),
-        Found::NoPlace => Ok(walk::nowhere(0)),
-        Found::Bad => {
-            show::say(to, b" bad")?;
-            Ok(walk::nowhere(0))
+        Ok(None) | Err(BlockError::NoPlace) => Ok(None),
+        Err(BlockError::Bad) => {
+            write!(to, " bad")?;
+            Ok(None)
         }
     }
 }
 
 // Whether what is found lies in the block.
-fn inside(b: &[u8], f: Found) -> bool {
-    match f {
-        Found::None => true,
-        Found::NoPlace => true,
-        Found::Bad => true,
-        Found::Entry {
-            start: _,
-            key_len,
-            value_at,
-            value_len,
-        } => {
-            if b.len() < value_at {
-                return false;
-            }
-            value_len <= b.len() - value_at && key_len <= 1032
-        }
-    }
+fn is_inside(block: &[u8], f: Found) -> bool {
+    let Ok(Some(e)) = f else {
+        return true;
+    };
+    let rest = block.get(e.value_at..);
+    rest.is_some_and(|rest| e.value_len <= rest.len()) && e.key_len <= 1032
 }
 
 // Reads any bytes: a seek, and the entry after each place. What is found has to lie in them.
-fn any(to: &mut Out, s: &[u8], at: usize, b: &[u8]) -> io::Result<()> {
+pub fn any(to: &mut Out, line: &mut Fields, block: &[u8]) -> io::Result<()> {
     let mut w = [0u8; 1100];
     let mut key = [0u8; 1032];
-    let f = fields::field(s, at, &mut w);
-    let r = rows::seek(b, front(&w, f.len), 7, &mut key);
-    show::yes(to, inside(b, r), b" outside", b" inside")?;
-    every(to, b)
-}
-
-fn every(to: &mut Out, b: &[u8]) -> io::Result<()> {
-    let mut at: usize = 0;
-    while at < b.len() {
-        after(to, b, at)?;
-        at = at + 1;
+    let f = rows::seek(block, line.field(&mut w), 7, &mut key);
+    let inside = is_inside(block, f);
+    write!(to, "{}", if inside { " inside" } else { " outside" })?;
+    for at in 0..block.len() {
+        let mut key = [0u8; 1032];
+        let f = rows::by_place(block, at, Which::After, &mut key);
+        if !is_inside(block, f) {
+            write!(to, " outside")?;
+        }
     }
     Ok(())
 }
 
-fn after(to: &mut Out, b: &[u8], at: usize) -> io::Result<()> {
-    let mut key = [0u8; 1032];
-    let f = rows::by_place(b, at, Which::After, &mut key);
-    show::yes(to, inside(b, f), b" outside", b"")
-}
-
 // The entry that starts some bytes, after a key of so many; then the whole key buffer.
-fn read(to: &mut Out, s: &[u8], at: usize) -> io::Result<()> {
-    let mut rest = [0u8; 1100];
+pub fn read(to: &mut Out, line: &mut Fields) -> io::Result<()> {
+    let mut r = [0u8; 1100];
     let mut key = [0xee_u8; 1032];
-    let fr = fields::field(s, at, &mut rest);
-    let fk = fields::field(s, fr.next, &mut key);
-    let n = fields::number(s, fk.next);
-    let r = rows::read_entry(front(&rest, fr.len), &mut key, n.value);
-    told(to, front(&rest, fr.len), r)?;
-    show::say(to, b" ")?;
-    show::shown(to, &key)
-}
-
-fn told(to: &mut Out, rest: &[u8], r: EntryRead) -> io::Result<()> {
-    match r {
-        EntryRead::Bad => show::say(to, b" bad"),
-        EntryRead::Entry {
-            shared,
-            key_len,
-            value_at,
-            value_len,
-        } => {
-            show::spaced(to, shared)?;
-            show::spaced(to, key_len)?;
-            show::say(to, b" at ")?;
-            show::number(to, value_at)?;
-            show::say(to, b" ")?;
-            show::part(to, rest, value_at, value_len)
+    let rest = line.field(&mut r);
+    line.field(&mut key);
+    match rows::read_entry(rest, &mut key, line.number()) {
+        None => write!(to, " bad")?,
+        Some(e) => {
+            let value = Part::new(rest, e.value_at, e.value_len);
+            write!(to, " {} {} at {} {value}", e.shared, e.key_len, e.value_at)?;
         }
     }
-}
-
-// Commands that read the loaded block.
-fn ask(to: &mut Out, s: &[u8], at: usize, op: u8, b: &[u8]) -> io::Result<()> {
-    if op == b'W' {
-        walk::walk(to, Over::Block, b)?;
-        return Ok(());
-    }
-    if op == b'F' {
-        return kinds(to, b);
-    }
-    if op == b'S' {
-        return seek(to, s, at, b);
-    }
-    if op == b'N' {
-        return next(to, s, at, b);
-    }
-    if op == b'A' {
-        return any(to, s, at, b);
-    }
-    read(to, s, at)
-}
-
-// Answers a command, and says how long the loaded bytes then are.
-pub fn answer(
-    to: &mut Out,
-    s: &[u8],
-    at: usize,
-    op: u8,
-    out: &mut [u8],
-    len: usize,
-) -> io::Result<usize> {
-    if op == b'B' {
-        return build(to, s, at, out);
-    }
-    if op == b'L' {
-        return load(to, s, at, out);
-    }
-    if op == b'D' {
-        damage(s, at, out);
-        return Ok(len);
-    }
-    if op == b'Z' {
-        patch(s, at, out);
-        return Ok(len);
-    }
-    if op == b'T' {
-        let n = fields::number(s, at);
-        return Ok(n.value);
-    }
-    ask(to, s, at, op, front(out, len))?;
-    Ok(len)
+    write!(to, " {}", Bytes(&key))
 }

@@ -1,147 +1,97 @@
 // Commands on keys.
-use crate::fields::front;
+use crate::fields::Fields;
+use crate::show;
 use crate::show::Out;
-use crate::{fields, show};
-use codec::put::Written;
-use keys::cmp::Ordering;
-use keys::key_types::{KeyRead, ValueType};
+use keys::key_types::ValueType;
 use keys::{cmp, key_types};
+use std::cmp::Ordering;
 use std::io;
+use std::io::Write;
 
-pub fn knows(op: u8) -> bool {
-    op == b'c'
-        || op == b'i'
-        || op == b't'
-        || op == b'p'
-        || op == b'k'
-        || op == b'u'
-        || op == b's'
-        || op == b'n'
-}
-
-fn order(to: &mut Out, o: Ordering) -> io::Result<()> {
-    match o {
-        Ordering::Less => show::say(to, b" less"),
-        Ordering::Equal => show::say(to, b" equal"),
-        Ordering::Greater => show::say(to, b" greater"),
+fn name_of(order: Ordering) -> &'static str {
+    match order {
+        Ordering::Less => "less",
+        Ordering::Equal => "equal",
+        Ordering::Greater => "greater",
     }
 }
 
-fn compare(to: &mut Out, s: &[u8], at: usize, op: u8) -> io::Result<()> {
+// Two words.
+pub fn compare(to: &mut Out, line: &mut Fields) -> io::Result<()> {
     let mut a = [0u8; 1100];
     let mut b = [0u8; 1100];
-    let fa = fields::field(s, at, &mut a);
-    let fb = fields::field(s, fa.next, &mut b);
-    let x = front(&a, fa.len);
-    let y = front(&b, fb.len);
-    if op == b'c' {
-        order(to, cmp::cmp(x, y))?;
-        show::spaced(to, cmp::common_len(x, y))
-    } else {
-        order(to, key_types::cmp_internal_key(x, y))
-    }
+    let x = line.field(&mut a);
+    let y = line.field(&mut b);
+    write!(to, " {} {}", name_of(cmp::cmp(x, y)), cmp::common_len(x, y))
 }
 
-fn target(to: &mut Out, s: &[u8], at: usize) -> io::Result<()> {
+// Two internal keys.
+pub fn compare_keys(to: &mut Out, line: &mut Fields) -> io::Result<()> {
     let mut a = [0u8; 1100];
     let mut b = [0u8; 1100];
-    let fa = fields::field(s, at, &mut a);
-    let fb = fields::field(s, fa.next, &mut b);
-    let sequence = fields::number(s, fb.next);
-    order(
+    let x = line.field(&mut a);
+    let y = line.field(&mut b);
+    write!(to, " {}", name_of(key_types::cmp_internal_key(x, y)))
+}
+
+// An internal key, and a word as of a sequence.
+pub fn target(to: &mut Out, line: &mut Fields) -> io::Result<()> {
+    let mut a = [0u8; 1100];
+    let mut b = [0u8; 1100];
+    let key = line.field(&mut a);
+    let word = line.field(&mut b);
+    let sequence = line.number() as u64;
+    write!(
         to,
-        key_types::cmp_target(front(&a, fa.len), front(&b, fb.len), sequence.value as u64),
+        " {}",
+        name_of(key_types::cmp_target(key, word, sequence))
     )
 }
 
-fn kind(to: &mut Out, k: ValueType) -> io::Result<()> {
-    match k {
-        ValueType::TypeDeletion => show::say(to, b" deletion"),
-        ValueType::TypeValue => show::say(to, b" value"),
-    }
-}
-
-fn parse(to: &mut Out, s: &[u8], at: usize) -> io::Result<()> {
+pub fn parse(to: &mut Out, line: &mut Fields) -> io::Result<()> {
     let mut a = [0u8; 1100];
-    let fa = fields::field(s, at, &mut a);
-    match key_types::parse_internal_key(front(&a, fa.len)) {
-        KeyRead::TooShort => show::say(to, b" too short"),
-        KeyRead::Key {
-            user_len,
-            sequence,
-            kind: k,
-        } => {
-            show::spaced(to, user_len)?;
-            show::say(to, b" ")?;
-            show::number64(to, sequence)?;
-            kind(to, k)
-        }
-    }
+    let Some(parsed) = key_types::parse_internal_key(line.field(&mut a)) else {
+        return write!(to, " too short");
+    };
+    let kind = match parsed.kind {
+        ValueType::TypeDeletion => "deletion",
+        ValueType::TypeValue => "value",
+    };
+    write!(to, " {} {} {kind}", parsed.user_len, parsed.sequence)
 }
 
-// Writes what a command asks for: an internal key, the separator of two words or of two keys, or a short word not below one.
-fn write(
-    op: u8,
-    run: &mut [u8],
-    at: usize,
-    x: &[u8],
-    y: &[u8],
-    sequence: u64,
-    kind: u8,
-) -> Written {
-    if op == b'k' {
-        return key_types::build_internal_key(run, at, x, sequence, kind);
-    }
-    if op == b'u' {
-        return cmp::find_shortest_sep(run, at, x, y);
-    }
-    if op == b's' {
-        return cmp::find_internal_sep(run, at, x, y);
-    }
-    cmp::find_short_succ(run, at, x)
+// The internal key of a word, an edition and a kind.
+pub fn build(to: &mut Out, line: &mut Fields) -> io::Result<()> {
+    let mut a = [0u8; 1100];
+    let word = line.field(&mut a);
+    let sequence = line.number() as u64;
+    let kind = (line.number() % 256) as u8;
+    show::written(to, |run, at| {
+        key_types::build_internal_key(run, at, word, sequence, kind)
+    })
 }
 
-// The same with room, and where it lacks a byte.
-fn written(to: &mut Out, op: u8, x: &[u8], y: &[u8], sequence: u64, kind: u8) -> io::Result<()> {
-    let mut run = [0xee_u8; 1200];
-    let mut short = [0xee_u8; 1200];
-    let w = write(op, &mut run, 3, x, y, sequence, kind);
-    let place = show::one_short(1200, 3, w);
-    let v = write(op, &mut short, place, x, y, sequence, kind);
-    show::written(to, &run, 3, w)?;
-    if show::some(3, w) {
-        show::refused(to, &short, v)?;
-    }
-    Ok(())
-}
-
-// What is written of a word, an edition and a kind, or of two words.
-fn put(to: &mut Out, s: &[u8], at: usize, op: u8) -> io::Result<()> {
+// The separator of two words.
+pub fn separate(to: &mut Out, line: &mut Fields) -> io::Result<()> {
     let mut a = [0u8; 1100];
     let mut b = [0u8; 1100];
-    let fa = fields::field(s, at, &mut a);
-    let fb = fields::field(s, fa.next, &mut b);
-    let sequence = fields::number(s, fa.next);
-    let k = fields::number(s, sequence.next);
-    written(
-        to,
-        op,
-        front(&a, fa.len),
-        front(&b, fb.len),
-        sequence.value as u64,
-        (k.value % 256) as u8,
-    )
+    let x = line.field(&mut a);
+    let y = line.field(&mut b);
+    show::written(to, |run, at| cmp::find_shortest_sep(run, at, x, y))
 }
 
-pub fn answer(to: &mut Out, s: &[u8], at: usize, op: u8) -> io::Result<()> {
-    if op == b'c' || op == b'i' {
-        return compare(to, s, at, op);
-    }
-    if op == b't' {
-        return target(to, s, at);
-    }
-    if op == b'p' {
-        return parse(to, s, at);
-    }
-    put(to, s, at, op)
+// The separator of two internal keys.
+pub fn separate_keys(to: &mut Out, line: &mut Fields) -> io::Result<()> {
+    let mut a = [0u8; 1100];
+    let mut b = [0u8; 1100];
+    let x = line.field(&mut a);
+    let y = line.field(&mut b);
+    show::written(to, |run, at| cmp::find_internal_sep(run, at, x, y))
+}
+
+// A short word not below one.
+pub fn succeed(to: &mut Out, line: &mut Fields) -> io::Result<()> {
+    let mut a = [0u8; 1100];
+    let word = line.field(&mut a);
+    show::written(to, |run, at| cmp::find_short_succ(run, at, word))
 }

@@ -4,8 +4,6 @@
 // tools/original_list and tools/rebuild_list.py.
 #![tactic(auto)]
 
-ghost use Rattle.std.specs.Prelude.{◌<◌, IfOk};
-
 mod block_cases;
 mod calls;
 mod cases;
@@ -20,163 +18,98 @@ mod state;
 mod tables;
 mod walk;
 
-use input::Held;
-use keys::cmp::same;
-use runs::{BYTES, NUMBERS};
+use calls::Rig;
+use cases::Loaded;
+use fields::Fields;
+use input::Lines;
 use show::Out;
+use std::alloc::{AllocError, Global};
 use std::io;
-use std::io::{BufWriter, Stdin, Write};
+use std::io::{BufWriter, Write};
 
-const CASES: u8 = 1;
+// So many lines at most are answered.
+const MOST: usize = 100_000;
 
-const CALLS: u8 = 2;
-
-// What the section's lines are, and how many bytes are loaded.
-#[derive(Clone, Copy)]
-struct Section {
-    kind: u8,
-    len: usize,
+// How the lines of a section are read.
+#[derive(Clone, Copy, PartialEq, Eq)]
+enum Section {
+    Cases,
+    Calls,
+    Unknown,
 }
 
-fn no_section() -> Section {
-    Section { kind: 0, len: 0 }
-}
-
-fn byte(s: &[u8], at: usize) -> u8 {
-    if at < s.len() { s[at] } else { 0 }
-}
-
-// What the lines of the section are that a line starts, 0 for one of another name.
-fn kind_of(s: &[u8]) -> u8 {
-    if same(s, b"# cases\n") || same(s, b"# original\n") {
-        return CASES;
+impl From<&[u8]> for Section {
+    // The section that a line starts.
+    fn from(line: &[u8]) -> Self {
+        match line {
+            b"# cases\n" | b"# original\n" => Section::Cases,
+            b"# builder\n" => Section::Calls,
+            _ => Section::Unknown,
+        }
     }
-    if same(s, b"# builder\n") {
-        return CALLS;
-    }
-    0
 }
 
-// The start of a section, written back.
-fn start(to: &mut Out, s: &[u8]) -> io::Result<Section> {
-    show::say(to, s)?;
-    Ok(Section {
-        kind: kind_of(s),
-        len: 0,
-    })
+// The section in turn, and what its lines are about.
+#[derive(Drop)]
+struct Replay {
+    section: Section,
+    loaded: Loaded,
+    rig: Rig,
 }
 
-// Answers a case, and says how long the loaded bytes then are.
-fn case(to: &mut Out, s: &[u8], section: Section, block: &mut [u8]) -> io::Result<usize> {
-    if section.kind == CASES {
-        return cases::answer(to, s, byte(s, 0), block, section.len);
+impl Replay {
+    fn new(alloc: Global) -> Result<Self, AllocError> {
+        Ok(Replay {
+            section: Section::Unknown,
+            loaded: Loaded::new(alloc)?,
+            rig: Rig::new(alloc)?,
+        })
     }
-    show::say(to, b" no section")?;
-    Ok(section.len)
-}
 
-// Answers a line that is no command of the builder.
-fn line(to: &mut Out, s: &[u8], section: Section, block: &mut [u8]) -> io::Result<Section> {
-    if s.len() == 0 {
-        return Ok(section);
+    // The start of a section, written back.
+    fn start(&mut self, to: &mut Out, line: &[u8]) -> io::Result<()> {
+        self.section = Section::from(line);
+        self.loaded.len = 0;
+        self.rig.clear();
+        to.write_all(line)
     }
-    let op = byte(s, 0);
-    if op == b'#' {
-        return start(to, s);
-    }
-    show::letter(to, op)?;
-    if section.kind == CALLS {
-        return Ok(section);
-    }
-    let len = case(to, s, section, block)?;
-    show::say(to, b"\n")?;
-    Ok(Section {
-        kind: section.kind,
-        len: len,
-    })
-}
 
-// The builder's command in a line, 0 for none.
-fn command(s: &[u8], section: Section) -> u8 {
-    if section.kind == CALLS { byte(s, 0) } else { 0 }
-}
-
-// How many lines may still follow, none after the last.
-fn left_after(to: &mut Out, left: usize, h: Held) -> io::Result<usize>
-    requires { 0 < left }
-    ensures { IfOk result (λ n. n < left) }
-{
-    if h.at == h.end {
-        return Ok(0);
+    fn answer(&mut self, to: &mut Out, line: &[u8]) -> io::Result<()> {
+        let op = line.first().copied().unwrap_or(0);
+        if op == b'#' {
+            return self.start(to, line);
+        }
+        to.write_all(&[op])?;
+        let mut fields = Fields::new(line);
+        match self.section {
+            Section::Cases => cases::answer(to, op, &mut fields, &mut self.loaded)?,
+            Section::Calls => self.rig.answer(to, op, &mut fields)?,
+            Section::Unknown => write!(to, " no section")?,
+        }
+        // The builder's command 0 is none, and has no answer to end.
+        if self.section == Section::Calls && op == 0 {
+            return Ok(());
+        }
+        writeln!(to)
     }
-    show::yes(to, left == 1, b"", b"the list is too long\n")?;
-    Ok(left - 1)
 }
 
 // Answers line after line.
-fn all(
-    from: &mut Stdin,
-    to: &mut Out,
-    list: &mut [u8; 65536],
-    block: &mut [u8; 65536],
-    out: &mut [u8; BYTES],
-    index: &mut [u8; BYTES],
-    filters: &mut [u8; BYTES],
-    restarts: &mut [u32; NUMBERS],
-    index_restarts: &mut [u32; NUMBERS],
-    offsets: &mut [u32; NUMBERS],
-    hashes: &mut [u32; NUMBERS],
-) -> io::Result<()> {
-    let mut section = no_section();
-    let mut rig = calls::no_rig();
-    let mut h = input::nothing();
-    let mut left: usize = 100000;
-    while 0 < left {
-        h = input::next(from, to, list, h)?;
-        section = line(to, input::line(list, h), section, block)?;
-        let op = command(input::line(list, h), section);
-        rig = calls::answer(
-            to,
-            input::line(list, h),
-            op,
-            rig,
-            out,
-            index,
-            filters,
-            restarts,
-            index_restarts,
-            offsets,
-            hashes,
-        )?;
-        left = left_after(to, left, h)?;
+fn answer(lines: &mut Lines, to: &mut Out, replay: &mut Replay) -> io::Result<()> {
+    for _ in 0..MOST {
+        let Some(line) = lines.next(to)? else {
+            return Ok(());
+        };
+        replay.answer(to, line)?;
     }
-    Ok(())
+    writeln!(to, "the list is too long")
 }
 
 fn main(rt: HostRuntime) -> io::Result<()> {
-    let mut from = rt.stdin();
-    let mut to = BufWriter::new(rt.alloc(), rt.stdout())?;
-    let mut list = [0u8; 65536];
-    let mut block = [0u8; 65536];
-    let mut out = [0u8; BYTES];
-    let mut index = [0u8; BYTES];
-    let mut filters = [0u8; BYTES];
-    let mut restarts = [0u32; NUMBERS];
-    let mut index_restarts = [0u32; NUMBERS];
-    let mut offsets = [0u32; NUMBERS];
-    let mut hashes = [0u32; NUMBERS];
-    all(
-        &mut from,
-        &mut to,
-        &mut list,
-        &mut block,
-        &mut out,
-        &mut index,
-        &mut filters,
-        &mut restarts,
-        &mut index_restarts,
-        &mut offsets,
-        &mut hashes,
-    )?;
+    let alloc = rt.alloc();
+    let mut lines = Lines::new(alloc, rt.stdin())?;
+    let mut to = BufWriter::new(alloc, rt.stdout())?;
+    let mut replay = Replay::new(alloc)?;
+    answer(&mut lines, &mut to, &mut replay)?;
     to.flush()
 }

@@ -1,155 +1,109 @@
 // Answers, written.
-use codec::put::Written;
-use std::io;
+use codec::put::NoRoom;
 use std::io::{BufWriter, Stdout, Write};
+use std::{fmt, io};
 
 // Where the answers go.
 pub type Out = BufWriter<Stdout>;
 
-pub fn say(to: &mut Out, s: &[u8]) -> io::Result<()> {
-    to.write_all(s)
+// The first bytes or numbers of a run, all of them where there are fewer.
+pub fn front<T>(run: &[T], len: usize) -> &[T] {
+    &run[..len.min(run.len())]
 }
 
-// One answer or the other.
-pub fn yes(to: &mut Out, b: bool, other: &[u8], one: &[u8]) -> io::Result<()> {
-    if b { say(to, one) } else { say(to, other) }
-}
+// Bytes in hex.
+#[derive(Clone, Copy)]
+pub struct Hex<'a>(pub &'a [u8]);
 
-pub fn letter(to: &mut Out, b: u8) -> io::Result<()> {
-    let one = [b];
-    say(to, &one)
-}
-
-pub fn number(to: &mut Out, n: usize) -> io::Result<()> {
-    write!(to, "{n}")
-}
-
-// A number after a blank.
-pub fn spaced(to: &mut Out, n: usize) -> io::Result<()> {
-    say(to, b" ")?;
-    number(to, n)
-}
-
-pub fn number64(to: &mut Out, n: u64) -> io::Result<()> {
-    write!(to, "{n}")
-}
-
-pub fn word(to: &mut Out, x: u32) -> io::Result<()> {
-    write!(to, "{x:08x}")
-}
-
-fn byte(to: &mut Out, b: u8) -> io::Result<()> {
-    write!(to, "{b:02x}")
-}
-
-pub fn hex(to: &mut Out, s: &[u8]) -> io::Result<()> {
-    let mut i: usize = 0;
-    while i < s.len() {
-        byte(to, s[i])?;
-        i = i + 1;
+impl fmt::Display for Hex<'_> {
+    fn fmt<W: fmt::Write>(&self, f: &mut fmt::Formatter<W>) -> fmt::Result {
+        for b in self.0 {
+            write!(f, "{b:02x}")?;
+        }
+        Ok(())
     }
-    Ok(())
 }
 
 // Short bytes in hex, none and long ones by their length and checksum.
-pub fn shown(to: &mut Out, s: &[u8]) -> io::Result<()> {
-    if 0 < s.len() && s.len() <= 40 {
-        hex(to, s)
-    } else {
-        number(to, s.len())?;
-        say(to, b":")?;
-        word(to, checksum::crc::extend(0, s))
+#[derive(Clone, Copy)]
+pub struct Bytes<'a>(pub &'a [u8]);
+
+impl fmt::Display for Bytes<'_> {
+    fn fmt<W: fmt::Write>(&self, f: &mut fmt::Formatter<W>) -> fmt::Result {
+        let bytes = self.0;
+        let len = bytes.len();
+        if 0 < len && len <= 40 {
+            return write!(f, "{}", Hex(bytes));
+        }
+        write!(f, "{len}:{:08x}", checksum::crc::extend(0, bytes))
     }
 }
 
-// The part of s of so many bytes at a place.
-pub fn part(to: &mut Out, s: &[u8], at: usize, len: usize) -> io::Result<()> {
-    if s.len() < at {
-        return say(to, b"outside");
+// A part of a run, which may not lie in it.
+#[derive(Clone, Copy)]
+pub struct Part<'a>(Option<&'a [u8]>);
+
+impl<'a> Part<'a> {
+    // So many bytes at a place.
+    pub fn new(run: &'a [u8], at: usize, len: usize) -> Self {
+        Part(run.get(at..).and_then(|rest| rest.get(..len)))
     }
-    let rest = &s[at..];
-    if rest.len() < len {
-        return say(to, b"outside");
-    }
-    shown(to, &rest[0..len])
 }
 
-// What was written from a place on.
-pub fn written(to: &mut Out, run: &[u8], from: usize, w: Written) -> io::Result<()> {
-    match w {
-        Written::NoRoom => say(to, b" no room"),
-        Written::At(next) => {
-            say(to, b" ")?;
-            if from <= next {
-                part(to, run, from, next - from)
-            } else {
-                say(to, b"outside")
-            }
+impl fmt::Display for Part<'_> {
+    fn fmt<W: fmt::Write>(&self, f: &mut fmt::Formatter<W>) -> fmt::Result {
+        match self.0 {
+            Some(bytes) => write!(f, "{}", Bytes(bytes)),
+            None => write!(f, "outside"),
+        }
+    }
+}
+
+// A key at the front of a run that was full of ee: the rest has to be as it was.
+#[derive(Clone, Copy)]
+pub struct Key<'a> {
+    pub run: &'a [u8],
+    pub len: usize,
+}
+
+impl fmt::Display for Key<'_> {
+    fn fmt<W: fmt::Write>(&self, f: &mut fmt::Formatter<W>) -> fmt::Result {
+        match self.run.split_at_checked(self.len) {
+            Some((key, rest)) => write!(f, "{}{}", Bytes(key), changed(rest)),
+            None => write!(f, "outside"),
         }
     }
 }
 
 // Whether a run is still full of ee.
-pub fn untouched(s: &[u8]) -> bool {
-    let mut i: usize = 0;
-    while i < s.len() {
-        if s[i] != 0xee {
-            return false;
-        }
-        i = i + 1;
-    }
-    true
+pub fn untouched(run: &[u8]) -> bool {
+    run.iter().all(|b| *b == 0xee)
 }
 
-// A write that lacks a byte has to leave the run as it was and say so.
-pub fn refused(to: &mut Out, run: &[u8], w: Written) -> io::Result<()> {
-    match w {
-        Written::NoRoom => kept(to, run),
-        Written::At(_) => say(to, b" taken"),
-    }
+// Tells of a run that is not as it was, full of ee.
+pub fn changed(run: &[u8]) -> &'static str {
+    if untouched(run) { "" } else { " changed" }
 }
 
-// Where a write of so many bytes lacks one, in a run of so many.
-pub fn one_short(room: usize, from: usize, w: Written) -> usize {
-    match w {
-        Written::NoRoom => room,
-        Written::At(next) => {
-            if from < next && next - from <= room {
-                room - (next - from) + 1
-            } else {
-                room
-            }
-        }
+// Shows what is written at place 3 of a run. The same in a run that lacks a byte for it has to be refused and leave that as it was.
+pub(crate) fn written<W>(to: &mut Out, write: W) -> io::Result<()>
+where
+    W: Fn(&mut [u8], usize) -> Result<usize, NoRoom>,
+    requires { W.IsAlwaysCallable write }
+{
+    const ROOM: usize = 2700;
+    let mut run = [0xee_u8; ROOM];
+    let Ok(end) = write(&mut run, 3) else {
+        return write!(to, " no room");
+    };
+    let len = end.saturating_sub(3);
+    write!(to, " {}", Part::new(&run, 3, len))?;
+    if len == 0 {
+        return Ok(());
     }
-}
-
-// Whether anything was written.
-pub fn some(from: usize, w: Written) -> bool {
-    match w {
-        Written::NoRoom => false,
-        Written::At(next) => from < next,
+    let mut short = [0xee_u8; ROOM];
+    match write(&mut short, (ROOM + 1).saturating_sub(len)) {
+        Err(NoRoom) => write!(to, "{}", changed(&short)),
+        Ok(_) => write!(to, " taken"),
     }
-}
-
-pub fn kept(to: &mut Out, run: &[u8]) -> io::Result<()> {
-    if untouched(run) {
-        Ok(())
-    } else {
-        say(to, b" changed")
-    }
-}
-
-// The key buffer has to be as it was where no entry is given.
-pub fn nothing(to: &mut Out, word: &[u8], run: &[u8]) -> io::Result<()> {
-    say(to, word)?;
-    kept(to, run)
-}
-
-// A key at the front of a run of 1,032 that was full of ee: the rest has to be as it was.
-pub fn key(to: &mut Out, run: &[u8], len: usize) -> io::Result<()> {
-    if run.len() < len {
-        return say(to, b"outside");
-    }
-    shown(to, &run[0..len])?;
-    kept(to, &run[len..])
 }

@@ -1,248 +1,171 @@
 // The builder's state: its numbers shown, its checksum, and a field of it set to a number.
-use crate::show;
-use crate::show::Out;
+use crate::finished::with_number;
+use crate::show::{Out, Part};
 use block_builder::block_builder::BlockBuilder;
-use bloom::filter::Filter;
 use builder::table_builder::{Builder, Lengths, Options};
+use checksum::crc;
 use std::io;
+use std::io::Write;
 
-// A filter by a number: none, or one bit less than the number.
-pub fn choice(n: usize) -> Filter {
-    if n == 0 {
-        Filter::None
-    } else {
-        Filter::Bits(((n - 1) % 4294967296) as u32)
+// A state before any start.
+pub fn none() -> Builder {
+    Builder {
+        options: Options {
+            block_size: 0,
+            interval: 0,
+            filter: None,
+        },
+        lengths: no_lengths(),
+        written: 0,
+        pending: BlockBuilder::new(0),
+        indexed: BlockBuilder::new(0),
+        filtered: 0,
+        made: 0,
+        waiting: 0,
+        finished: false,
     }
 }
 
-fn wide(x: u32) -> usize {
-    x as usize
+pub fn no_lengths() -> Lengths {
+    Lengths {
+        out: 0,
+        index: 0,
+        filters: 0,
+        restarts: 0,
+        index_restarts: 0,
+        offsets: 0,
+        hashes: 0,
+    }
 }
 
-fn one_more(n: usize) -> usize {
-    if n < 0xffff_ffff_ffff { n + 1 } else { n }
+// A filter by a number: none, or one bit less than the number.
+pub fn choice(n: usize) -> Option<u32> {
+    let bits = n.checked_sub(1)?;
+    Some((bits % 0x1_0000_0000) as u32)
 }
 
 // The number of a filter.
-fn number_of(f: Filter) -> usize {
-    match f {
-        Filter::None => 0,
-        Filter::Bits(b) => one_more(wide(b)),
-    }
+fn number_of(filter: Option<u32>) -> usize {
+    filter.map_or(0, |bits| bits as usize + 1)
 }
 
-fn flag(b: bool) -> usize {
-    if b { 1 } else { 0 }
+fn numbers_of(l: &Lengths) -> [usize; 7] {
+    [
+        l.out,
+        l.index,
+        l.filters,
+        l.restarts,
+        l.index_restarts,
+        l.offsets,
+        l.hashes,
+    ]
 }
 
-// A checksum with a number more.
-pub fn with_number(c: u32, n: usize) -> u32 {
-    let mut eight = [0u8; 8];
-    codec::fixed::write_u64(&mut eight, 0, n as u64);
-    checksum::crc::extend(c, &eight)
+// A checksum with numbers of 8 bytes more.
+fn with_numbers(sum: u32, numbers: &[usize]) -> u32 {
+    numbers.iter().fold(sum, |sum, n| with_number(sum, *n))
 }
 
-fn sum_block(c: u32, b: BlockBuilder) -> u32 {
-    let a = with_number(with_number(c, b.interval), b.bytes);
-    let d = with_number(with_number(a, b.restarts), b.since);
-    let last = b.last;
-    checksum::crc::extend(with_number(d, b.len), &last)
-}
-
-fn sum_lengths(c: u32, l: Lengths) -> u32 {
-    let a = with_number(with_number(with_number(c, l.out), l.index), l.filters);
-    let d = with_number(with_number(a, l.restarts), l.index_restarts);
-    with_number(with_number(d, l.offsets), l.hashes)
-}
-
-fn sum_options(c: u32, o: Options) -> u32 {
-    let f = o.filter;
-    let a = with_number(with_number(c, o.block_size), o.interval);
-    with_number(a, number_of(f))
+fn with_block(sum: u32, b: &BlockBuilder) -> u32 {
+    let numbers = [b.interval, b.bytes, b.restarts, b.since, b.len];
+    crc::extend(with_numbers(sum, &numbers), &b.last)
 }
 
 // The checksum of all that a state holds.
-pub fn sum(b: Builder) -> u32 {
-    let options = b.options;
-    let lengths = b.lengths;
-    let pending = b.pending;
-    let indexed = b.indexed;
-    let c = sum_lengths(sum_options(0, options), lengths);
-    let d = sum_block(sum_block(c, pending), indexed);
-    let e = with_number(with_number(d, b.written), b.filtered);
-    let f = with_number(with_number(e, b.made), b.waiting);
-    with_number(f, flag(b.finished))
+pub fn sum(b: &Builder) -> u32 {
+    let o = &b.options;
+    let options = with_numbers(0, &[o.block_size, o.interval, number_of(o.filter)]);
+    let lengths = with_numbers(options, &numbers_of(&b.lengths));
+    let blocks = with_block(with_block(lengths, &b.pending), &b.indexed);
+    let finished = usize::from(b.finished);
+    with_numbers(
+        blocks,
+        &[b.written, b.filtered, b.made, b.waiting, finished],
+    )
 }
 
 // A block's numbers, and its last key.
-fn tell_block(to: &mut Out, b: BlockBuilder) -> io::Result<()> {
-    show::spaced(to, b.interval)?;
-    show::spaced(to, b.bytes)?;
-    show::spaced(to, b.restarts)?;
-    show::spaced(to, b.since)?;
-    show::say(to, b" ")?;
-    let last = b.last;
-    show::part(to, &last, 0, b.len)
-}
-
-fn tell_options(to: &mut Out, o: Options) -> io::Result<()> {
-    let f = o.filter;
-    show::spaced(to, o.interval)?;
-    show::spaced(to, o.block_size)?;
-    show::spaced(to, number_of(f))
-}
-
-fn tell_lengths(to: &mut Out, l: Lengths) -> io::Result<()> {
-    show::spaced(to, l.out)?;
-    show::spaced(to, l.index)?;
-    show::spaced(to, l.filters)?;
-    show::spaced(to, l.restarts)?;
-    show::spaced(to, l.index_restarts)?;
-    show::spaced(to, l.offsets)?;
-    show::spaced(to, l.hashes)
+fn tell_block(to: &mut Out, b: &BlockBuilder) -> io::Result<()> {
+    let last = Part::new(&b.last, 0, b.len);
+    write!(
+        to,
+        " {} {} {} {} {last}",
+        b.interval, b.bytes, b.restarts, b.since
+    )
 }
 
 // All that a state holds but what lies behind the last keys.
-pub fn tell(to: &mut Out, b: Builder) -> io::Result<()> {
-    let options = b.options;
-    let lengths = b.lengths;
-    let pending = b.pending;
-    let indexed = b.indexed;
-    tell_options(to, options)?;
-    tell_lengths(to, lengths)?;
-    show::spaced(to, b.written)?;
-    tell_block(to, pending)?;
-    tell_block(to, indexed)?;
-    show::spaced(to, b.filtered)?;
-    show::spaced(to, b.made)?;
-    show::spaced(to, b.waiting)?;
-    show::spaced(to, flag(b.finished))
+pub fn tell(to: &mut Out, b: &Builder) -> io::Result<()> {
+    let o = &b.options;
+    write!(
+        to,
+        " {} {} {}",
+        o.interval,
+        o.block_size,
+        number_of(o.filter)
+    )?;
+    for n in numbers_of(&b.lengths) {
+        write!(to, " {n}")?;
+    }
+    write!(to, " {}", b.written)?;
+    tell_block(to, &b.pending)?;
+    tell_block(to, &b.indexed)?;
+    write!(
+        to,
+        " {} {} {} {}",
+        b.filtered,
+        b.made,
+        b.waiting,
+        u8::from(b.finished)
+    )
 }
 
-// Options with a field set: 0 interval, 1 block size, 2 filter.
-fn set_options(o: Options, field: usize, n: usize) -> Options {
-    let mut r = o;
-    if field == 0 {
-        r.interval = n;
-        return r;
-    }
-    if field == 1 {
-        r.block_size = n;
-        return r;
-    }
-    let f = choice(n);
-    Options {
-        block_size: o.block_size,
-        interval: o.interval,
-        filter: f,
+// Sets an option: 0 interval, 1 block size, 2 filter.
+fn set_option(o: &mut Options, field: usize, n: usize) {
+    match field {
+        0 => o.interval = n,
+        1 => o.block_size = n,
+        _ => o.filter = choice(n),
     }
 }
 
-// Lengths with one set, from 0 to 6.
-pub fn set_length(l: Lengths, field: usize, n: usize) -> Lengths {
-    let mut r = l;
-    if field == 0 {
-        r.out = n;
-        return r;
+// Sets a length, from 0 to 6.
+pub fn set_length(l: &mut Lengths, field: usize, n: usize) {
+    match field {
+        0 => l.out = n,
+        1 => l.index = n,
+        2 => l.filters = n,
+        3 => l.restarts = n,
+        4 => l.index_restarts = n,
+        5 => l.offsets = n,
+        _ => l.hashes = n,
     }
-    if field == 1 {
-        r.index = n;
-        return r;
-    }
-    if field == 2 {
-        r.filters = n;
-        return r;
-    }
-    if field == 3 {
-        r.restarts = n;
-        return r;
-    }
-    if field == 4 {
-        r.index_restarts = n;
-        return r;
-    }
-    if field == 5 {
-        r.offsets = n;
-        return r;
-    }
-    r.hashes = n;
-    r
 }
 
-// A block with a field set: 0 interval, 1 bytes, 2 restarts, 3 since, 4 len, 5 the first byte of the last key.
-fn set_block(b: BlockBuilder, field: usize, n: usize) -> BlockBuilder {
-    let mut r = b;
-    if field == 0 {
-        r.interval = n;
-        return r;
+// Sets a field of a block: 0 interval, 1 bytes, 2 restarts, 3 since, 4 len, 5 the first byte of the last key.
+fn set_block(b: &mut BlockBuilder, field: usize, n: usize) {
+    match field {
+        0 => b.interval = n,
+        1 => b.bytes = n,
+        2 => b.restarts = n,
+        3 => b.since = n,
+        4 => b.len = n,
+        _ => b.last[0] = (n % 256) as u8,
     }
-    if field == 1 {
-        r.bytes = n;
-        return r;
-    }
-    if field == 2 {
-        r.restarts = n;
-        return r;
-    }
-    if field == 3 {
-        r.since = n;
-        return r;
-    }
-    if field == 4 {
-        r.len = n;
-        return r;
-    }
-    let mut last = r.last;
-    last[0] = (n % 256) as u8;
-    r.last = last;
-    r
 }
 
-// A state with a count set: 20 written, 21 filtered, 22 made, 23 waiting, 24 finished.
-fn set_count(b: Builder, field: usize, n: usize) -> Builder {
-    let mut r = b;
-    if field == 20 {
-        r.written = n;
-        return r;
+// Sets a field: from 0 on an option, from 10 a length; 20 written, 21 filtered, 22 made, 23 waiting, 24 finished; from 30 on the
+// open block, from 40 the index.
+pub fn set(b: &mut Builder, field: usize, n: usize) {
+    match field {
+        0..=9 => set_option(&mut b.options, field, n),
+        10..=19 => set_length(&mut b.lengths, field - 10, n),
+        20 => b.written = n,
+        21 => b.filtered = n,
+        22 => b.made = n,
+        23 => b.waiting = n,
+        24..=29 => b.finished = n != 0,
+        30..=39 => set_block(&mut b.pending, field - 30, n),
+        40.. => set_block(&mut b.indexed, field - 40, n),
     }
-    if field == 21 {
-        r.filtered = n;
-        return r;
-    }
-    if field == 22 {
-        r.made = n;
-        return r;
-    }
-    if field == 23 {
-        r.waiting = n;
-        return r;
-    }
-    r.finished = n != 0;
-    r
-}
-
-// A state with a field set: from 0 on an option, from 10 a length, from 20 a count, from 30 the open block, from 40 the index.
-pub fn set(b: Builder, field: usize, n: usize) -> Builder {
-    let mut r = b;
-    if field < 10 {
-        let options = b.options;
-        r.options = set_options(options, field, n);
-        return r;
-    }
-    if field < 20 {
-        let lengths = b.lengths;
-        r.lengths = set_length(lengths, field - 10, n);
-        return r;
-    }
-    if field < 30 {
-        return set_count(b, field, n);
-    }
-    if field < 40 {
-        let pending = b.pending;
-        r.pending = set_block(pending, field - 30, n);
-        return r;
-    }
-    let indexed = b.indexed;
-    r.indexed = set_block(indexed, field - 40, n);
-    r
 }

@@ -1,476 +1,339 @@
 // Commands on tables: the full check and the reads, of the loaded bytes.
-use crate::fields::front;
-use crate::show::Out;
-use crate::walk::{Over, Walked};
-use crate::{fields, show, walk};
+use crate::cases::Loaded;
+use crate::fields::Fields;
+use crate::show::{Bytes, Key, Out, changed, front, untouched};
+use crate::walk;
+use checksum::trailer;
+use codec::blockhandle::BlockHandle;
 use full_check::check;
-use full_check::check::Verdict;
 use reader::table_reader;
 use reader::table_reader::{Entry, Found, Place, Sought};
 use std::io;
+use std::io::Write;
+use table_block::refusal::Refusal;
 
-pub fn knows(op: u8) -> bool {
-    op == b'V'
-        || op == b'J'
-        || op == b'Q'
-        || op == b'P'
-        || op == b'U'
-        || op == b'I'
-        || op == b'X'
-        || op == b'R'
-        || op == b'Y'
+// A word as of an edition.
+#[derive(Clone, Copy)]
+struct Asked<'a> {
+    word: &'a [u8],
+    edition: u64,
 }
 
-fn refusal(to: &mut Out, n: u32) -> io::Result<()> {
-    show::say(to, b" ")?;
-    show::number64(to, n as u64)
+impl<'a> Asked<'a> {
+    // Of the next two fields; the word at the front of a run.
+    fn new(line: &mut Fields, run: &'a mut [u8]) -> Self {
+        let word = line.field(run);
+        Asked {
+            word,
+            edition: line.number() as u64,
+        }
+    }
 }
 
-fn verdict(to: &mut Out, t: &[u8]) -> io::Result<()> {
-    match check::check(t) {
-        Verdict::Pass => show::say(to, b" pass"),
-        Verdict::Refused(n) => refusal(to, n),
+pub fn verdict(to: &mut Out, table: &[u8]) -> io::Result<()> {
+    match check::check(table) {
+        Ok(()) => write!(to, " pass"),
+        Err(refusal) => write!(to, " {}", refusal.number()),
     }
 }
 
 // An entry: its place, its key, where its value starts, and the value.
-fn entry(to: &mut Out, t: &[u8], key: &[u8], e: Entry) -> io::Result<()> {
-    let place = e.place;
-    show::spaced(to, place.index)?;
-    show::spaced(to, place.entry)?;
-    show::say(to, b" ")?;
-    show::key(to, key, e.key_len)?;
-    show::say(to, b" at ")?;
-    show::number(to, e.value_at)?;
-    show::say(to, b" ")?;
-    show::shown(to, table_reader::value(t, e))
-}
-
-// A refusal's number; the key buffer has to be as it was.
-fn refused(to: &mut Out, key: &[u8], n: u32) -> io::Result<()> {
-    refusal(to, n)?;
-    show::kept(to, key)
-}
-
-fn sought(to: &mut Out, t: &[u8], key: &[u8], r: Sought) -> io::Result<()> {
-    match r {
-        Sought::Refused(n) => refused(to, key, n),
-        Sought::None => show::nothing(to, b" none", key),
-        Sought::Entry(e) => entry(to, t, key, e),
-    }
-}
-
-fn deleted(to: &mut Out, t: &[u8], key: &[u8], e: Entry) -> io::Result<()> {
-    show::say(to, b" deleted")?;
-    entry(to, t, key, e)
-}
-
-fn found(to: &mut Out, t: &[u8], key: &[u8], r: Found) -> io::Result<()> {
-    match r {
-        Found::Refused(n) => refused(to, key, n),
-        Found::Absent => show::nothing(to, b" absent", key),
-        Found::Entry(e) => entry(to, t, key, e),
-        Found::Deleted(e) => deleted(to, t, key, e),
-    }
-}
-
-// A seek with the first bytes of a run as the key buffer.
-fn seek_with(t: &[u8], word: &[u8], edition: u64, run: &mut [u8], room: usize) -> Sought {
-    if room <= run.len() {
-        table_reader::seek(t, word, edition, &mut run[0..room])
-    } else {
-        Sought::None
-    }
-}
-
-fn lookup_with(t: &[u8], word: &[u8], edition: u64, run: &mut [u8], room: usize) -> Found {
-    if room <= run.len() {
-        table_reader::lookup(t, word, edition, &mut run[0..room])
-    } else {
-        Found::Absent
-    }
-}
-
-fn step_with(t: &[u8], index: usize, start: usize, run: &mut [u8], room: usize) -> Sought {
-    let place = Place {
-        index,
-        entry: start,
+fn entry(to: &mut Out, table: &[u8], run: &[u8], e: Entry) -> io::Result<()> {
+    let key = Key {
+        run,
+        len: e.key_len,
     };
-    if room <= run.len() {
-        table_reader::step(t, place, &mut run[0..room])
-    } else {
-        Sought::None
+    write!(
+        to,
+        " {} {} {key} at {} {}",
+        e.place.index,
+        e.place.entry,
+        e.value_at,
+        Bytes(table_reader::value(table, e))
+    )
+}
+
+// Where no entry is given, the key buffer has to be as it was.
+fn sought(to: &mut Out, table: &[u8], run: &[u8], s: Sought) -> io::Result<()> {
+    match s {
+        Err(refusal) => write!(to, " {}{}", refusal.number(), changed(run)),
+        Ok(None) => write!(to, " none{}", changed(run)),
+        Ok(Some(e)) => entry(to, table, run, e),
+    }
+}
+
+// What a lookup answers.
+type Looked = Result<Found, Refusal>;
+
+fn found(to: &mut Out, table: &[u8], run: &[u8], f: Looked) -> io::Result<()> {
+    match f {
+        Err(refusal) => write!(to, " {}{}", refusal.number(), changed(run)),
+        Ok(Found::Absent) => write!(to, " absent{}", changed(run)),
+        Ok(Found::Entry(e)) => entry(to, table, run, e),
+        Ok(Found::Deleted(e)) => {
+            write!(to, " deleted")?;
+            entry(to, table, run, e)
+        }
     }
 }
 
 // A seek of a word and an edition, with a key buffer of so many bytes.
-fn seek(to: &mut Out, s: &[u8], at: usize, t: &[u8]) -> io::Result<()> {
+pub fn seek(to: &mut Out, line: &mut Fields, table: &[u8]) -> io::Result<()> {
     let mut w = [0u8; 1100];
-    let mut key = [0xee_u8; 1100];
-    let f = fields::field(s, at, &mut w);
-    let edition = fields::number(s, f.next);
-    let room = fields::number(s, edition.next);
-    let r = seek_with(
-        t,
-        front(&w, f.len),
-        edition.value as u64,
-        &mut key,
-        room.value,
-    );
-    sought(to, t, &key, r)
+    let mut run = [0xee_u8; 1100];
+    let asked = Asked::new(line, &mut w);
+    let s = match run.get_mut(..line.number()) {
+        Some(key) => table_reader::seek(table, asked.word, asked.edition, key),
+        None => Ok(None),
+    };
+    sought(to, table, &run, s)
 }
 
-fn lookup(to: &mut Out, s: &[u8], at: usize, t: &[u8]) -> io::Result<()> {
+pub fn lookup(to: &mut Out, line: &mut Fields, table: &[u8]) -> io::Result<()> {
     let mut w = [0u8; 1100];
-    let mut key = [0xee_u8; 1100];
-    let f = fields::field(s, at, &mut w);
-    let edition = fields::number(s, f.next);
-    let room = fields::number(s, edition.next);
-    let r = lookup_with(
-        t,
-        front(&w, f.len),
-        edition.value as u64,
-        &mut key,
-        room.value,
-    );
-    found(to, t, &key, r)
+    let mut run = [0xee_u8; 1100];
+    let asked = Asked::new(line, &mut w);
+    let f = match run.get_mut(..line.number()) {
+        Some(key) => table_reader::lookup(table, asked.word, asked.edition, key),
+        None => Ok(Found::Absent),
+    };
+    found(to, table, &run, f)
+}
+
+// The place of the next two fields.
+fn place(line: &mut Fields) -> Place {
+    let index = line.number();
+    Place {
+        index,
+        entry: line.number(),
+    }
 }
 
 // A step from a place, with a key buffer of so many bytes.
-fn step(to: &mut Out, s: &[u8], at: usize, t: &[u8]) -> io::Result<()> {
-    let mut key = [0xee_u8; 1100];
-    let index = fields::number(s, at);
-    let start = fields::number(s, index.next);
-    let room = fields::number(s, start.next);
-    let r = step_with(t, index.value, start.value, &mut key, room.value);
-    sought(to, t, &key, r)
+pub fn step(to: &mut Out, line: &mut Fields, table: &[u8]) -> io::Result<()> {
+    let mut run = [0xee_u8; 1100];
+    let place = place(line);
+    let s = match run.get_mut(..line.number()) {
+        Some(key) => table_reader::step(table, place, key),
+        None => Ok(None),
+    };
+    sought(to, table, &run, s)
 }
 
 // The first entry of a walk, or the one after a place.
-pub fn reached(t: &[u8], w: Walked, n: usize, key: &mut [u8]) -> Sought {
-    if n == 0 {
-        table_reader::seek(t, b"\0", 0x00ff_ffff_ffff_ffff, key)
-    } else {
-        let room = key.len();
-        step_with(t, w.index, w.entry, key, room)
+pub fn reached(table: &[u8], place: Option<Place>, key: &mut [u8]) -> Sought {
+    match place {
+        None => table_reader::seek(table, b"\0", 0x00ff_ffff_ffff_ffff, key),
+        Some(place) => table_reader::step(table, place, key),
     }
 }
 
-pub fn going(e: Entry, sum: u32) -> Walked {
-    let place = e.place;
-    Walked {
-        more: true,
-        index: place.index,
-        entry: place.entry,
-        sum,
-    }
+// All entries, of which the first six are shown.
+pub fn walk(to: &mut Out, table: &[u8]) -> io::Result<()> {
+    walk::walk(to, |to, place, n| {
+        let mut key = [0xee_u8; 1032];
+        let s = reached(table, place, &mut key);
+        visit(to, table, &key, s, n)
+    })
 }
 
-// One entry of a walk, shown if it is among the first six.
-pub fn visit(to: &mut Out, t: &[u8], key: &[u8], r: Sought, n: usize) -> io::Result<Walked> {
-    match r {
-        Sought::Refused(x) => {
-            refused(to, key, x)?;
-            Ok(walk::nowhere(0))
+fn visit(to: &mut Out, table: &[u8], key: &[u8], s: Sought, n: usize) -> io::Result<Option<Place>> {
+    match s {
+        Err(refusal) => {
+            write!(to, " {}{}", refusal.number(), changed(key))?;
+            Ok(None)
         }
-        Sought::None => {
-            show::kept(to, key)?;
-            Ok(walk::nowhere(0))
+        Ok(None) => {
+            write!(to, "{}", changed(key))?;
+            Ok(None)
         }
-        Sought::Entry(e) => {
+        Ok(Some(e)) => {
             if n < 6 {
-                entry(to, t, key, e)?;
+                entry(to, table, key, e)?;
             }
-            Ok(going(e, 0))
+            Ok(Some(e.place))
         }
     }
 }
 
 // Whether an entry's value lies in the table, and only its key was written to the key buffer.
-fn lies(t: &[u8], key: &[u8], e: Entry) -> bool {
-    let from = e.value_at;
-    let n = e.key_len;
-    if t.len() < from {
+fn lies(table: &[u8], run: &[u8], e: Entry) -> bool {
+    let Some(rest) = table.get(e.value_at..) else {
         return false;
-    }
-    if key.len() < n {
+    };
+    let Some(behind) = run.get(e.key_len..) else {
         return false;
-    }
-    if t.len() - from < e.value_len {
-        return false;
-    }
-    show::untouched(&key[n..])
+    };
+    e.value_len <= rest.len() && untouched(behind)
 }
 
 // Whether a refusal is one that a read may give on any table, the key buffer as it was.
-fn may_refuse(key: &[u8], n: u32) -> bool {
-    if n == 7 || n == 8 || n == 10 || n == 14 {
-        show::untouched(key)
-    } else {
-        false
-    }
+fn may_refuse(run: &[u8], refusal: Refusal) -> bool {
+    let may = matches!(
+        refusal,
+        Refusal::NoTable | Refusal::Outside | Refusal::Malformed | Refusal::NoPlace
+    );
+    may && untouched(run)
 }
 
 // Whether a seek or a step may answer this on any table.
-fn may_seek(t: &[u8], key: &[u8], r: Sought) -> bool {
-    match r {
-        Sought::Refused(n) => may_refuse(key, n),
-        Sought::None => show::untouched(key),
-        Sought::Entry(e) => lies(t, key, e),
+fn may_seek(table: &[u8], run: &[u8], s: Sought) -> bool {
+    match s {
+        Err(refusal) => may_refuse(run, refusal),
+        Ok(None) => untouched(run),
+        Ok(Some(e)) => lies(table, run, e),
     }
 }
 
 // Whether a lookup may.
-fn may_find(t: &[u8], key: &[u8], r: Found) -> bool {
-    match r {
-        Found::Refused(n) => may_refuse(key, n),
-        Found::Absent => show::untouched(key),
-        Found::Entry(e) => lies(t, key, e),
-        Found::Deleted(e) => lies(t, key, e),
-    }
-}
-
-fn onward(r: Sought) -> Walked {
-    match r {
-        Sought::Refused(_) => walk::nowhere(0),
-        Sought::None => walk::nowhere(0),
-        Sought::Entry(e) => going(e, 0),
+fn may_find(table: &[u8], run: &[u8], f: Looked) -> bool {
+    match f {
+        Err(refusal) => may_refuse(run, refusal),
+        Ok(Found::Absent) => untouched(run),
+        Ok(Found::Entry(e) | Found::Deleted(e)) => lies(table, run, e),
     }
 }
 
 fn other(to: &mut Out, may: bool) -> io::Result<()> {
-    show::yes(to, may, b" other", b"")
+    write!(to, "{}", if may { "" } else { " other" })
 }
 
-fn any_seek(to: &mut Out, t: &[u8], word: &[u8], edition: u64) -> io::Result<Walked> {
-    let mut key = [0xee_u8; 1032];
-    let r = table_reader::seek(t, word, edition, &mut key);
-    other(to, may_seek(t, &key, r))?;
-    Ok(onward(r))
+// The place that a seek or a step came to.
+fn onward(s: Sought) -> Option<Place> {
+    let Ok(Some(e)) = s else {
+        return None;
+    };
+    Some(e.place)
 }
 
-fn any_lookup(to: &mut Out, t: &[u8], word: &[u8], edition: u64) -> io::Result<()> {
+fn any_lookup(to: &mut Out, table: &[u8], asked: Asked) -> io::Result<()> {
     let mut key = [0xee_u8; 1032];
-    let r = table_reader::lookup(t, word, edition, &mut key);
-    other(to, may_find(t, &key, r))
+    let f = table_reader::lookup(table, asked.word, asked.edition, &mut key);
+    other(to, may_find(table, &key, f))
 }
 
-fn any_step(to: &mut Out, t: &[u8], index: usize, start: usize) -> io::Result<Walked> {
+fn any_seek(to: &mut Out, table: &[u8], asked: Asked) -> io::Result<Option<Place>> {
     let mut key = [0xee_u8; 1032];
-    let r = step_with(t, index, start, &mut key, 1032);
-    other(to, may_seek(t, &key, r))?;
-    Ok(onward(r))
+    let s = table_reader::seek(table, asked.word, asked.edition, &mut key);
+    other(to, may_seek(table, &key, s))?;
+    Ok(onward(s))
+}
+
+fn any_step(to: &mut Out, table: &[u8], place: Place) -> io::Result<Option<Place>> {
+    let mut key = [0xee_u8; 1032];
+    let s = table_reader::step(table, place, &mut key);
+    other(to, may_seek(table, &key, s))?;
+    Ok(onward(s))
 }
 
 // Reads any bytes: a lookup, a seek, and some steps from there. An answer that no table allows is told.
-fn any_reads(to: &mut Out, t: &[u8], word: &[u8], edition: u64) -> io::Result<()> {
-    any_lookup(to, t, word, edition)?;
-    let mut w = any_seek(to, t, word, edition)?;
-    let mut n: usize = 0;
-    while n < 16 && w.more {
-        n = n + 1;
-        w = any_step(to, t, w.index, w.entry)?;
+fn any_reads(to: &mut Out, table: &[u8], asked: Asked) -> io::Result<()> {
+    any_lookup(to, table, asked)?;
+    let mut place = any_seek(to, table, asked)?;
+    for _ in 0..16 {
+        let Some(from) = place else {
+            break;
+        };
+        place = any_step(to, table, from)?;
     }
     Ok(())
 }
 
 // The same, and a step from a place.
-fn any(to: &mut Out, s: &[u8], at: usize, t: &[u8]) -> io::Result<()> {
+pub fn any(to: &mut Out, line: &mut Fields, table: &[u8]) -> io::Result<()> {
     let mut w = [0u8; 1100];
-    let f = fields::field(s, at, &mut w);
-    let edition = fields::number(s, f.next);
-    let index = fields::number(s, edition.next);
-    let start = fields::number(s, index.next);
-    any_reads(to, t, front(&w, f.len), edition.value as u64)?;
-    any_step(to, t, index.value, start.value)?;
-    show::say(to, b" allowed")
+    let asked = Asked::new(line, &mut w);
+    any_reads(to, table, asked)?;
+    any_step(to, table, place(line))?;
+    write!(to, " allowed")
 }
 
-// What a lookup answers on a table that passes.
-fn passed(to: &mut Out, t: &[u8], word: &[u8], edition: u64) -> io::Result<()> {
-    let mut key = [0xee_u8; 1032];
-    show::say(to, b" pass")?;
-    let r = table_reader::lookup(t, word, edition, &mut key);
-    found(to, t, &key, r)
-}
-
-// The verdict on a table, and reads of it.
-fn tried(to: &mut Out, t: &[u8], word: &[u8], edition: u64) -> io::Result<()> {
-    match check::check(t) {
-        Verdict::Pass => passed(to, t, word, edition)?,
-        Verdict::Refused(n) => refusal(to, n)?,
+// The verdict on a table, what a lookup answers if it passes, and reads of it.
+fn tried(to: &mut Out, table: &[u8], asked: Asked) -> io::Result<()> {
+    match check::check(table) {
+        Err(refusal) => write!(to, " {}", refusal.number())?,
+        Ok(()) => {
+            let mut key = [0xee_u8; 1032];
+            write!(to, " pass")?;
+            let f = table_reader::lookup(table, asked.word, asked.edition, &mut key);
+            found(to, table, &key, f)?;
+        }
     }
-    any_reads(to, t, word, edition)
-}
-
-// A part of a table, and whether it is a block that is sealed anew after a change.
-#[derive(Clone, Copy)]
-struct Part {
-    at: usize,
-    size: usize,
-    sealed: bool,
-}
-
-fn change_byte(out: &mut [u8], i: usize, bits: u8) {
-    if i < out.len() {
-        out[i] = out[i] ^ bits;
-    }
-}
-
-fn change(out: &mut [u8], i: usize, bits: u8, part: Part) {
-    change_byte(out, i, bits);
-    if part.sealed {
-        checksum::trailer::put_trailer(out, part.at, part.size);
-    }
-}
-
-// The table with a byte of a part changed; then it is as it was.
-fn changed(
-    to: &mut Out,
-    out: &mut [u8],
-    len: usize,
-    i: usize,
-    bits: u8,
-    part: Part,
-    word: &[u8],
-    edition: u64,
-) -> io::Result<()> {
-    change(out, i, bits, part);
-    let told = tried(to, front(out, len), word, edition);
-    change(out, i, bits, part);
-    told
-}
-
-// Every byte of a part changed in turn.
-fn each_byte(
-    to: &mut Out,
-    out: &mut [u8],
-    len: usize,
-    end: usize,
-    bits: u8,
-    part: Part,
-    word: &[u8],
-    edition: u64,
-) -> io::Result<()> {
-    let mut i = part.at;
-    while i < end {
-        changed(to, out, len, i, bits, part, word, edition)?;
-        i = i + 1;
-    }
-    Ok(())
-}
-
-// Every shorter length.
-fn each_length(to: &mut Out, t: &[u8], word: &[u8], edition: u64) -> io::Result<()> {
-    let mut n: usize = 0;
-    while n < t.len() {
-        tried(to, front(t, n), word, edition)?;
-        n = n + 1;
-    }
-    Ok(())
-}
-
-fn bytes(to: &mut Out, s: &[u8], at: usize, out: &mut [u8], len: usize) -> io::Result<()> {
-    let mut w = [0u8; 1100];
-    let bits = fields::number(s, at);
-    let f = fields::field(s, bits.next, &mut w);
-    let edition = fields::number(s, f.next);
-    let part = Part {
-        at: 0,
-        size: len,
-        sealed: false,
-    };
-    each_byte(
-        to,
-        out,
-        len,
-        len,
-        (bits.value % 256) as u8,
-        part,
-        front(&w, f.len),
-        edition.value as u64,
-    )
+    any_reads(to, table, asked)
 }
 
 // Where a block ends, as far as there are bytes.
-fn end_of(at: usize, size: usize) -> usize {
-    if 65536 < at {
-        return at;
+fn end(block: BlockHandle) -> usize {
+    if block.offset <= 65536 && block.size <= 65536 {
+        block.offset + block.size
+    } else {
+        block.offset
     }
-    if 65536 < size {
-        return at;
-    }
-    at + size
 }
 
-fn sealed(to: &mut Out, s: &[u8], at: usize, out: &mut [u8], len: usize) -> io::Result<()> {
+// What is changed in turn: bits of each byte from a place up to another. A block is sealed anew after each change.
+#[derive(Clone, Copy)]
+struct Damage {
+    from: usize,
+    end: usize,
+    bits: u8,
+    sealed: Option<BlockHandle>,
+}
+
+impl Damage {
+    // Changes the byte at a place; the same again makes it as it was. A block that has no room for its trailer is not sealed.
+    fn change(&self, loaded: &mut Loaded, at: usize) {
+        loaded.flip(at, self.bits);
+        if let Some(block) = self.sealed {
+            let _ = trailer::put_trailer(loaded.run.as_mut_slice(), block.offset, block.size);
+        }
+    }
+}
+
+fn each_byte(to: &mut Out, loaded: &mut Loaded, damage: Damage, asked: Asked) -> io::Result<()> {
+    for at in damage.from..damage.end {
+        damage.change(loaded, at);
+        tried(to, loaded.bytes(), asked)?;
+        damage.change(loaded, at);
+    }
+    Ok(())
+}
+
+// Every byte of the table changed in turn.
+pub fn bytes(to: &mut Out, line: &mut Fields, loaded: &mut Loaded) -> io::Result<()> {
     let mut w = [0u8; 1100];
-    let from = fields::number(s, at);
-    let size = fields::number(s, from.next);
-    let bits = fields::number(s, size.next);
-    let f = fields::field(s, bits.next, &mut w);
-    let edition = fields::number(s, f.next);
-    let part = Part {
-        at: from.value,
-        size: size.value,
-        sealed: true,
+    let damage = Damage {
+        from: 0,
+        end: loaded.len,
+        bits: (line.number() % 256) as u8,
+        sealed: None,
     };
-    each_byte(
-        to,
-        out,
-        len,
-        end_of(from.value, size.value),
-        (bits.value % 256) as u8,
-        part,
-        front(&w, f.len),
-        edition.value as u64,
-    )
+    let asked = Asked::new(line, &mut w);
+    each_byte(to, loaded, damage, asked)
 }
 
-fn lengths(to: &mut Out, s: &[u8], at: usize, t: &[u8]) -> io::Result<()> {
+// Every byte of a block.
+pub fn sealed(to: &mut Out, line: &mut Fields, loaded: &mut Loaded) -> io::Result<()> {
     let mut w = [0u8; 1100];
-    let f = fields::field(s, at, &mut w);
-    let edition = fields::number(s, f.next);
-    each_length(to, t, front(&w, f.len), edition.value as u64)
+    let offset = line.number();
+    let size = line.number();
+    let block = BlockHandle { offset, size };
+    let damage = Damage {
+        from: offset,
+        end: end(block),
+        bits: (line.number() % 256) as u8,
+        sealed: Some(block),
+    };
+    let asked = Asked::new(line, &mut w);
+    each_byte(to, loaded, damage, asked)
 }
 
-// Commands that only read the table.
-fn ask(to: &mut Out, s: &[u8], at: usize, op: u8, t: &[u8]) -> io::Result<()> {
-    if op == b'V' {
-        return verdict(to, t);
+// Every shorter length.
+pub fn lengths(to: &mut Out, line: &mut Fields, table: &[u8]) -> io::Result<()> {
+    let mut w = [0u8; 1100];
+    let asked = Asked::new(line, &mut w);
+    for len in 0..table.len() {
+        tried(to, front(table, len), asked)?;
     }
-    if op == b'J' {
-        return seek(to, s, at, t);
-    }
-    if op == b'Q' {
-        return lookup(to, s, at, t);
-    }
-    if op == b'P' {
-        return step(to, s, at, t);
-    }
-    if op == b'U' {
-        walk::walk(to, Over::Table, t)?;
-        return Ok(());
-    }
-    if op == b'I' {
-        return any(to, s, at, t);
-    }
-    lengths(to, s, at, t)
-}
-
-pub fn answer(
-    to: &mut Out,
-    s: &[u8],
-    at: usize,
-    op: u8,
-    out: &mut [u8],
-    len: usize,
-) -> io::Result<()> {
-    if op == b'X' {
-        return bytes(to, s, at, out, len);
-    }
-    if op == b'R' {
-        return sealed(to, s, at, out, len);
-    }
-    ask(to, s, at, op, front(out, len))
+    Ok(())
 }

@@ -4,15 +4,14 @@ use mathlib.Core.Path.{◌≡◌, refl}
 use mathlib.Core.Bool.{true, false}
 use mathlib.Core.List.{List, [], ◌∷◌}
 use mathlib.Core.Option.{Option}
-use Rattle.codec.specs.declared.blockhandle.OneHandle.{OneHandle}
-use Rattle.codec.specs.declared.blockhandle.OneHandle.TheVariants as OneCase
-use Rattle.codec.specs.Answers.{one_handle_answer}
+use Rattle.std.specs.Prelude as code
+use Rattle.std.specs.Prelude.{None}
+use Rattle.codec.specs.Answers.{given}
 use Rattle.codec.specs.Bytes.{same_bytes}
 use Rattle.codec.specs.Varint.{Handle, one_handle}
-use Rattle.block_reader.specs.declared.block.RowsRead.TheVariants as RowsCase
 use Rattle.blocks.specs.Block.{Entry, pairs_of}
 use Rattle.blocks.specs.Formed.{bloom_name}
-use Rattle.block_reader.specs.Steps.{rows_of, rows_answer}
+use Rattle.block_reader.specs.Steps.{rows_of}
 use Rattle.block_reader.proofs.SeekLaws.{never_read}
 use Rattle.table_block.specs.Answers.{BloomRead}
 use Rattle.table.specs.Table.{bloom_handle}
@@ -21,8 +20,8 @@ use Rattle.table.specs.Table.{bloom_handle}
 abbrev pub named : List Entry → Option Handle
 named es = bloom_handle (pairs_of es)
 
-pub bloom_end : OneCase.None ≡ one_handle_answer (named [])
-unfolding bloom_handle one_handle_answer
+pub bloom_end : None ≡ given (named [])
+unfolding bloom_handle given
 bloom_end = refl
 
 module _ (e : Entry) (rest : List Entry) where
@@ -35,5 +34,5 @@ module _ (e : Entry) (rest : List Entry) where
   bloom_past h = rw (h, bloom_handle)
 
 -- without a layout nothing can be read
-pub bloom_bad : (s : List ℕ) (r : OneHandle) → rows_answer (rows_of s) ≡ RowsCase.Bad → BloomRead s r
+pub bloom_bad : (s : List ℕ) (r : code.Option Handle) → given (rows_of s) ≡ None → BloomRead s r
 bloom_bad s r e = record { answer = λ es read. absurd (never_read s e read) }

@@ -1,2 +1,3 @@
+pub mod RefusalLaws
 pub mod FooterLaws
 pub mod BloomLaws

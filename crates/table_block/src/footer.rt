@@ -4,39 +4,29 @@ ghost use Rattle.codec.specs.Bytes.{same_bytes};
 ghost use Rattle.table_block.specs.Answers.{footer_answer};
 ghost use Rattle.table.specs.Table.{magic, ends_before, footer_handles, footer};
 
-use codec::blockhandle::HandleRead;
-use codec::fixed::NumberRead;
+use crate::refusal::Refusal;
+use codec::blockhandle;
+use codec::blockhandle::BlockHandle;
+use codec::fixed::FixedInt;
 
 // The most bytes that a table has.
 pub const TABLE_LIMIT: usize = 16777216;
 
-// What decoding a table's footer finds: where the metaindex and the index stand, or the refusal's number.
-#[derive(Clone, Copy)]
-pub enum FooterRead {
-    Footer {
-        meta_offset: usize,
-        meta_size: usize,
-        index_offset: usize,
-        index_size: usize,
-    },
-    Refused(u32),
+// Where the metaindex and the index of a table stand.
+#[derive(Clone, Copy, Debug, PartialEq, Eq)]
+pub struct Footer {
+    pub metaindex: BlockHandle,
+    pub index: BlockHandle,
 }
 
-// Whether a block of so many bytes and its trailer end before the footer of a table of len bytes.
-pub fn placed(len: usize, offset: usize, size: usize) -> bool
-    ensures { result ≡ ends_before len offset size }
+// Whether the block at a handle and its trailer of 5 bytes end before the footer, the last 48 of a table of len bytes.
+pub fn placed(len: usize, handle: BlockHandle) -> bool
+    ensures { result ≡ ends_before len handle.offset handle.size }
 {
-    if len < 48 {
+    let Some(room) = len.checked_sub(48 + 5) else {
         return false;
-    }
-    let room = len - 48;
-    if room < offset {
-        return false;
-    }
-    if room - offset < size {
-        return false;
-    }
-    5 <= room - offset - size
+    };
+    handle.offset <= room && handle.size <= room - handle.offset
 }
 
 // Whether a table ends in the magic.
@@ -44,62 +34,33 @@ fn ends_in_magic(table: &[u8]) -> bool
     requires { 48 ≤ length table.now }
     ensures { result ≡ same_bytes (drop (length table.now - 8) table.now) magic }
 {
-    match codec::fixed::read_u64(table, table.len() - 8) {
-        NumberRead::Bad => false,
-        NumberRead::Value(x) => x == 0xdb47_7524_8b80_fb57,
-    }
+    u64::read(table, table.len() - 8).unwrap() == 0xdb47_7524_8b80_fb57
 }
 
-// The two handles in the 40 bytes before the magic, if both blocks stand before the footer of a table of len bytes: 8.
-fn handles(s: &[u8], len: usize) -> FooterRead
+// The two handles in the 40 bytes before the magic, if both blocks stand before the footer of a table of len bytes.
+fn handles(s: &[u8], len: usize) -> Result<Footer, Refusal>
     ensures { (t : List ℕ) → length t ≡ len → result ≡ footer_answer (footer_handles t s.now) }
 {
-    match codec::blockhandle::decode(s) {
-        HandleRead::Bad => FooterRead::Refused(8),
-        HandleRead::Handle {
-            offset: meta_offset,
-            size: meta_size,
-            len: first,
-        } => match codec::blockhandle::decode(&s[first..]) {
-            HandleRead::Bad => FooterRead::Refused(8),
-            HandleRead::Handle {
-                offset: index_offset,
-                size: index_size,
-                len: second,
-            } => {
-                if placed(len, meta_offset, meta_size) {} else {
-                    return FooterRead::Refused(8);
-                }
-                if placed(len, index_offset, index_size) {} else {
-                    return FooterRead::Refused(8);
-                }
-                FooterRead::Footer {
-                    meta_offset: meta_offset,
-                    meta_size: meta_size,
-                    index_offset: index_offset,
-                    index_size: index_size,
-                }
-            }
-        },
+    let metaindex = blockhandle::decode(s).ok_or(Refusal::Outside)?;
+    let index = blockhandle::decode(&s[metaindex.size..]).ok_or(Refusal::Outside)?;
+    if !placed(len, metaindex.handle) || !placed(len, index.handle) {
+        return Err(Refusal::Outside);
     }
+    Ok(Footer {
+        metaindex: metaindex.handle,
+        index: index.handle,
+    })
 }
 
-// The footer of a table: 7, and 8 for both handles.
-pub fn decode(table: &[u8]) -> FooterRead
+// The footer of a table.
+pub fn decode(table: &[u8]) -> Result<Footer, Refusal>
     ensures { result ≡ footer_answer (footer table.now) }
 {
     let n = table.len();
-    if n < 48 {
-        return FooterRead::Refused(7);
+    if n < 48 || TABLE_LIMIT < n || !ends_in_magic(table) {
+        return Err(Refusal::NoTable);
     }
-    if TABLE_LIMIT < n {
-        return FooterRead::Refused(7);
-    }
-    if ends_in_magic(table) {
-        let from = n - 48;
-        let to = n - 8;
-        handles(&table[from..to], n)
-    } else {
-        FooterRead::Refused(7)
-    }
+    let from = n - 48;
+    let to = n - 8;
+    handles(&table[from..to], n)
 }

@@ -1,12 +1,11 @@
 -- The end of a table, block behind block.
 use Prim.Native.Nat.{ℕ, ◌+◌, ◌*◌, ◌-◌, ◌^◌, ◌≤◌, min}
 use mathlib.Core.Path.{◌≡◌, sym, ap, subst, ◌∙◌}
-use mathlib.Core.List.{List, [], ◌∷◌, ◌++◌}
+use mathlib.Core.List.{List, ◌++◌}
 use native.Mathlib.Omega.{arith}
-use lib.ListN.{length, take, length-append}
-use lib.Seq.{length-take-le}
+use lib.ListN.{length, length-append}
 use Rattle.codec.specs.Put.{put}
-use Rattle.codec.specs.Varint.{handle_bytes}
+use Rattle.codec.specs.Varint.{Handle, handle_bytes}
 use Rattle.block_builder.specs.declared.block_builder.BlockBuilder.{BlockBuilder}
 use Rattle.blocks.specs.Block.{Pair, block_bytes}
 use Rattle.blocks.specs.Count.{entry_size, count_size}
@@ -22,19 +21,16 @@ use Rattle.table.specs.Runs.{overlay}
 use Rattle.table.proofs.CountsLaws.{handle_length}
 use Rattle.table.proofs.FrameLaws.{framed_length}
 use Rattle.table.proofs.OverlayLaws.{overlay_put, overlay_long}
-use Rattle.table_write.specs.Writes.{Framed, IndexPut, EndFits, filter_block, meta_block, EndPut}
+use Rattle.table_write.specs.Writes.{Framed, IndexPut, EndFits, meta_block, EndPut}
 
-filter_long : (bytes made : ℕ) (filters offsets : List ℕ) → bytes ≤ length filters → made ≤ length offsets → bytes + 4 * made + 5 ≡ length (filter_block bytes made filters offsets)
-unfolding filter_block
-filter_long bytes made filters offsets h k =
-    let x = block_of_long (take bytes filters) (take made offsets) in
-    omega (arith, x, length-take-le bytes filters h, length-take-le made offsets k)
+filter_long : (filters offsets : List ℕ) → length filters + 4 * length offsets + 5 ≡ length (filter_block_of filters offsets)
+filter_long filters offsets = omega (arith, block_of_long filters offsets)
 
-meta_long : (i : ℕ) (c : Filtering) (at size : ℕ) → meta_size c at size ≡ length (meta_block i c at size)
+meta_long : (i : ℕ) (c : Filtering) (h : Handle) → meta_size c h.offset h.size ≡ length (meta_block i c h)
 unfolding meta_size meta_block
-meta_long i c at size =
-    let p : Pair = record { key = meta_name c; value = handle_bytes (record { offset = at; size = size }) } in
-    sym (one_long i p ∙ ap (λ (n : ℕ). n + 8) (entry_long 0 p ∙ ap (λ (n : ℕ). entry_size 0 (length p.key) n) (handle_length at size)))
+meta_long i c h =
+    let p : Pair = record { key = meta_name c; value = handle_bytes h } in
+    sym (one_long i p ∙ ap (λ (n : ℕ). n + 8) (entry_long 0 p ∙ ap (λ (n : ℕ). entry_size 0 (length p.key) n) (handle_length h.offset h.size)))
 
 -- contents and their trailer behind what stands
 behind : {out out' : List ℕ} {at : ℕ} {bs : List ℕ} (w r : List ℕ) → Framed out at bs out' → out ≡ overlay w r → at ≡ length w → length (w ++ framed bs) ≤ length r → out' ≡ overlay (w ++ framed bs) r
@@ -44,24 +40,26 @@ behind {out} {out'} {at} {bs} w r g p e h =
     let k = overlay_long w out r p (omega arith) in
     g.framed (omega arith) ∙ overlay_put w (framed bs) out r at e p h
 
-module _ (n : ℕ) (c : Filtering) (at bytes made : ℕ) (indexed : BlockBuilder) (filters offsets index rs out : List ℕ) {o₁ o₂ o₃ o₄ : List ℕ} (block meta size : ℕ)
-    (fits : EndFits at bytes made indexed (length filters) (length offsets) (length index))
-    (eb : block ≡ bytes + 4 * made + 5)
-    (g₁ : block ≡ length (filter_block_of (take bytes filters) (take made offsets)) → Framed out at (filter_block_of (take bytes filters) (take made offsets)) o₁)
+module _ (n : ℕ) (c : Filtering) (at : ℕ) (indexed : BlockBuilder) (filters offsets index rs out : List ℕ) {o₁ o₂ o₃ o₄ : List ℕ} (block meta size : ℕ)
+    (fits : EndFits at (length filters) (length offsets) indexed (length index))
+    (eb : block ≡ length filters + 4 * length offsets + 5)
+    (g₁ : block ≡ length (filter_block_of filters offsets) → Framed out at (filter_block_of filters offsets) o₁)
     (em : meta ≡ meta_size c at block)
-    (g₂ : 1 ≤ n → n ≤ 1024 → Framed o₁ (at + block + 5) (block_bytes n (record { key = meta_name c; value = handle_bytes (record { offset = at; size = block }) } ∷ [])) o₂)
+    (g₂ : 1 ≤ n → n ≤ 1024 → Framed o₁ (at + block + 5) (meta_block n c (record { offset = at; size = block })) o₂)
     (g₃ : IndexPut indexed index rs (at + block + 5 + meta + 5) o₂ o₃)
     (es : size ≡ min (2 ^ 64 - 1) (count_size (count_in indexed)))
     (g₄ : o₄ ≡ put o₃ (at + block + 5 + meta + 5 + size + 5) (footer_bytes (record { offset = at + block + 5; size = meta }) (record { offset = at + block + 5 + meta + 5; size = size }))) where
-  pub end_put : EndPut n c at bytes made indexed filters offsets index rs out o₄
-  unfolding filter_block meta_block
+  abbrev the_filter : ℕ → Handle
+  the_filter k = record { offset = at; size = k }
+
+  pub end_put : EndPut n c at indexed filters offsets index rs out o₄
   end_put =
       record {
         wrote = λ l m i ps st w r p lw h.
-            let fb = filter_block_of (take bytes filters) (take made offsets) in
-            let b : block ≡ length fb = eb ∙ filter_long bytes made filters offsets fits.in_filters fits.in_offsets in
-            let mb = meta_block n c at (length fb) in
-            let mm : meta ≡ length mb = em ∙ ap (meta_size c at) b ∙ meta_long n c at (length fb) in
+            let fb = filter_block_of filters offsets in
+            let b : block ≡ length fb = eb ∙ filter_long filters offsets in
+            let mb = meta_block n c (the_filter (length fb)) in
+            let mm : meta ≡ length mb = em ∙ ap (meta_size c at) b ∙ meta_long n c (the_filter (length fb)) in
             let ib = block_bytes i ps in
             let z : count_size (count_in indexed) ≡ length ib = sym (stands_size st) in
             let ss : size ≡ length ib = omega (arith, es, fits.index_size, z) in
@@ -76,7 +74,7 @@ module _ (n : ℕ) (c : Filtering) (at bytes made : ℕ) (indexed : BlockBuilder
             let fm = framed_length mb in
             let fi = framed_length ib in
             let x₁ : o₁ ≡ overlay t r = behind w r (g₁ b) p (sym lw) (omega arith) in
-            let mb' : Framed o₁ (at + block + 5) mb o₂ = subst (λ (k : ℕ). Framed o₁ (at + block + 5) (meta_block n c at k) o₂) b (g₂ l m) in
+            let mb' : Framed o₁ (at + block + 5) mb o₂ = subst (λ (k : ℕ). Framed o₁ (at + block + 5) (meta_block n c (the_filter k)) o₂) b (g₂ l m) in
             let at₁ : at + block + 5 ≡ length t = omega arith in
             let x₂ : o₂ ≡ overlay u r = behind t r mb' x₁ at₁ (omega arith) in
             let at₂ : at + block + 5 + meta + 5 ≡ length u = omega arith in

@@ -1,13 +1,11 @@
 -- The metaindex's name and size.
 use Prim.Native.Nat.{ℕ, ◌+◌, ◌-◌, ◌≤◌}
-use mathlib.Core.Path.{◌≡◌, refl, sym, ap, ap₂, ◌∙◌}
+use mathlib.Core.Path.{◌≡◌, refl, ap, ap₂, ◌∙◌}
 use native.Mathlib.Omega.{arith}
 use lib.ListN.{length}
 use Rattle.codec.specs.Varint.{varint_bytes, varint_bytes_f}
 use Rattle.blocks.specs.Formed.{bloom_name}
 use Rattle.blocks.specs.Count.{varint_size, entry_size}
-use Rattle.bloom.specs.declared.filter.Filter as FilterEnum
-use Rattle.bloom.specs.Choice.{choice_of}
 use Rattle.filters.specs.FilterBlock.{Filtering, unfiltered, bits_per_key}
 use Rattle.table.specs.Build.{meta_name}
 use Rattle.table.specs.Counts.{handle_size, meta_size}
@@ -27,6 +25,3 @@ pub name_most : (c : Filtering) → length (meta_name c) ≤ 35
 unfolding meta_name bloom_name
 name_most unfiltered = omega arith
 name_most (bits_per_key b) = omega arith
-
-pub name_is : {f g : FilterEnum.Filter} → f ≡ g → meta_name (choice_of g) ≡ meta_name (choice_of f)
-name_is e = ap (λ (x : FilterEnum.Filter). meta_name (choice_of x)) (sym e)

@@ -7,30 +7,29 @@ use native.Mathlib.Nat.{zero-add, add-zero, suc-add}
 use native.Mathlib.Omega.{arith}
 use lib.ListN.{length, take, drop, replicate, length-append, length-replicate, drop_of_length-le}
 use lib.Seq.{take_at, drop_at}
+use Rattle.std.specs.Prelude.{Result, Ok}
+use Rattle.std.specs.Result.{result_unwrap_or}
 use Rattle.codec.specs.Bytes.{part}
 use Rattle.checksum.specs.Checksum.{trailer}
 use Rattle.codec.specs.Put.{put, Wrote}
 use Rattle.codec.specs.Varint.{Handle, handle_bytes}
-use Rattle.codec.specs.declared.put.Written.{Written}
-use Rattle.codec.specs.declared.put.Written.TheVariants.{At}
-use Rattle.codec.proofs.PutLaws.{put_put, put_room, wrote_next}
+use Rattle.codec.specs.declared.put.NoRoom.{NoRoom}
+use Rattle.codec.proofs.PutLaws.{put_put, put_room, answer_room, front_put}
 use Rattle.checksum.proofs.TrailerLaws.{trailer_length}
 use Rattle.codec.proofs.VarintLaws.{handle_long}
 use Rattle.block_builder.specs.declared.block_builder.BlockBuilder.{BlockBuilder}
-use Rattle.block_builder.specs.declared.block_builder.Added.{Added}
 use Rattle.blocks.specs.Block.{Pair, packed, restarts_of, tail_bytes, block_bytes}
 use Rattle.blocks.specs.Count.{BlockCount, count_of, count_entry, count_size}
 use Rattle.blocks.proofs.CountLaws.{entry_restarts, count_size_lem}
 use Rattle.blocks.proofs.BuildLaws.{block_length}
 use Rattle.block_builder.specs.Builder as Blocks
-use Rattle.block_builder.specs.Builder.{count_in, new_builder, builder_after, builder_with, next_bytes, AddedIs}
+use Rattle.block_builder.specs.Builder.{count_in, new_builder, builder_after, builder_with, next_bytes, fit_answer, AddedIs}
 use Rattle.block_builder.proofs.BuilderLaws.{counting_none, after_is, stands_none, stands_more, stands_size, added_is}
 use Rattle.block_builder.proofs.BuilderCode.{next_bytes_lem}
-use Rattle.bloom.specs.declared.filter.Filter as FilterEnum
-use Rattle.bloom.specs.Choice.{choice_of}
+use Rattle.filters.specs.FilterBlock.{Filtering}
 use Rattle.table.specs.Build.{framed, meta_name, footer_bytes}
 use Rattle.table.specs.Table.{magic}
-use Rattle.table_write.specs.Writes.{size_of, tailed_out, sealed_out, Framed}
+use Rattle.table_write.specs.Writes.{size_of, tailed_out, sealed_out, Framed, meta_block}
 use Rattle.table_write.proofs.EntryLaws.{entry_bytes_lem, countable_small, counted_long, fits_addable, part_put}
 use Rattle.table_write.proofs.MetaLaws.{name_most}
 use Rattle.table_write.proofs.WriteLaws.{size_is}
@@ -68,9 +67,9 @@ block_framed {i} {ps} {b} {at} {e} {rs} out s m p h =
 
 -- ---- a block of one entry
 
-module _ (i at : ℕ) (out key value : List ℕ) {out₁ rs₁ out₂ : List ℕ} {x : Added} (l : 1 ≤ i) (m : i ≤ 1024) (k : length key ≤ 1032) (v : length value ≤ 32768)
-    (g : AddedIs (new_builder i) at out out₁ (0 ∷ []) rs₁ key value x)
-    (t : out₂ ≡ sealed_out out₁ at x.block rs₁) where
+module _ (i at : ℕ) (out key value : List ℕ) {out₁ rs₁ out₂ : List ℕ} {x : Result (Unit {0}) NoRoom} {b : BlockBuilder} (l : 1 ≤ i) (m : i ≤ 1024) (k : length key ≤ 1032) (v : length value ≤ 32768)
+    (g : AddedIs (new_builder i) at out out₁ (0 ∷ []) rs₁ key value x b)
+    (t : out₂ ≡ sealed_out out₁ at b rs₁) where
   abbrev p : Pair
   p = record { key = key; value = value }
 
@@ -91,17 +90,17 @@ module _ (i at : ℕ) (out key value : List ℕ) {out₁ rs₁ out₂ : List ℕ
   unfolding count_size new_builder count_in
   one_most = omega (arith, entry_bytes_lem i (count_in b₀) key (length value), (entry_restarts i (count_in b₀) key (length value)).1)
 
-  one_fits : at + length (block_bytes i (p ∷ [])) + 5 ≤ length out → x.fits ≡ true
+  one_fits : at + length (block_bytes i (p ∷ [])) + 5 ≤ length out → x ≡ Ok tt
   unfolding count_size new_builder builder_after builder_with count_in
   one_fits h =
       g.fits
-      ∙ fits_addable b₀ at out (0 ∷ []) key value (countable_small b₀ key (length value) k (omega arith) (omega arith) (omega arith) (omega arith) l m)
-      (omega (arith, one_size)) (omega (arith, (entry_restarts i (count_in b₀) key (length value)).1)) (omega arith)
+      ∙ ap fit_answer (fits_addable b₀ at out (0 ∷ []) key value (countable_small b₀ key (length value) k (omega arith) (omega arith) (omega arith) (omega arith) l m)
+      (omega (arith, one_size)) (omega (arith, (entry_restarts i (count_in b₀) key (length value)).1)) (omega arith))
 
-  one_bytes : x.fits ≡ true → (x.block.bytes ≡ length (next_bytes b₀ key value)) × (x.block.bytes ≡ c.bytes)
+  one_bytes : x ≡ Ok tt → (b.bytes ≡ length (next_bytes b₀ key value)) × (b.bytes ≡ c.bytes)
   unfolding builder_after builder_with new_builder
   one_bytes f =
-      let e : x.block.bytes ≡ c.bytes = ap (λ (y : BlockBuilder). y.bytes) (added_is g true f).0 in
+      let e : b.bytes ≡ c.bytes = ap (λ (y : BlockBuilder). y.bytes) (added_is g true f).0 in
       let n = next_bytes_lem b₀ key value in
       (omega (arith, e, n), e)
 
@@ -182,17 +181,27 @@ pub footer_is : (m i : Handle) {f₁ f₂ f₃ : List ℕ} {n : ℕ} → f₁ �
 unfolding footer_bytes
 footer_is m i p q r w = foot_is (handle_bytes m) (handle_bytes i) (handle_long m) (handle_long i) p q r w
 
-pub foot_next : (offset size : ℕ) {e : List ℕ} {r : Written} {n : ℕ} → Wrote (replicate 48 0) 0 (handle_bytes (record { offset = offset; size = size })) r e → r ≡ At n
-    → n ≡ 0 + length (handle_bytes (record { offset = offset; size = size }))
-foot_next offset size {e} {r} {n} w p =
-    let bs = handle_bytes (record { offset = offset; size = size }) in
-    let l = length-replicate {A = ℕ} 48 0 in
-    wrote_next (replicate 48 0) 0 bs n r e (omega (arith, handle_long (record { offset = offset; size = size }))) w p
+-- ---- a handle at the front of an array that has room for it
+
+module _ (h : Handle) {d e : List ℕ} {r : Result ℕ NoRoom} {n : ℕ} (w : Wrote d 0 (handle_bytes h) r e) (u : n ≡ result_unwrap_or r 0) where
+  -- it is never refused
+  handle_end : 20 ≤ length d → n ≡ 0 + length (handle_bytes h)
+  handle_end l =
+      let o : r ≡ Ok (0 + length (handle_bytes h)) = w.said ∙ answer_room d 0 (handle_bytes h) (omega (arith, handle_long h)) in
+      u ∙ ap (λ (x : Result ℕ NoRoom). result_unwrap_or x 0) o
+
+  pub handle_put : length d ≡ 20 → (n ≤ 20) × ((length e ≡ 20) × (take n e ≡ handle_bytes h))
+  handle_put l =
+      let o : r ≡ Ok n = w.said ∙ answer_room d 0 (handle_bytes h) (omega (arith, handle_long h)) ∙ ap Ok (sym (handle_end (omega arith))) in
+      front_put 20 (handle_bytes h) l (handle_long h) w o
+
+pub foot_next : (h : Handle) {e : List ℕ} {r : Result ℕ NoRoom} {n : ℕ} → Wrote (replicate 48 0) 0 (handle_bytes h) r e → n ≡ result_unwrap_or r 0 → n ≡ 0 + length (handle_bytes h)
+foot_next h w u = handle_end h w u (omega (arith, length-replicate {A = ℕ} 48 0))
 
 -- ---- the metaindex
 
-pub meta_framed : {i at : ℕ} {out out' name value : List ℕ} (f : FilterEnum.Filter) (offset size : ℕ) → name ≡ meta_name (choice_of f) → value ≡ handle_bytes (record { offset = offset; size = size })
+pub meta_framed : {i at : ℕ} {out out' name value : List ℕ} (c : Filtering) (h : Handle) → name ≡ meta_name c → value ≡ handle_bytes h
     → (1 ≤ i → i ≤ 1024 → length name ≤ 1032 → length value ≤ 32768 → Framed out at (block_bytes i (record { key = name; value = value } ∷ [])) out')
-    → 1 ≤ i → i ≤ 1024 → Framed out at (block_bytes i (record { key = meta_name (choice_of f); value = handle_bytes (record { offset = offset; size = size }) } ∷ [])) out'
-meta_framed f offset size p q g l m =
-    (rw (p, q) at g) l m (omega (arith, name_most (choice_of f))) (omega (arith, handle_long (record { offset = offset; size = size })))
+    → 1 ≤ i → i ≤ 1024 → Framed out at (meta_block i c h) out'
+unfolding meta_block
+meta_framed c h p q g l m = (rw (p, q) at g) l m (omega (arith, name_most c)) (omega (arith, handle_long h))

@@ -1,11 +1,11 @@
 -- What the parts of a table leave in the runs when they are written.
-use Rattle.std.specs.Prelude.{ℕ, ◌+◌, ◌-◌, ◌≤◌, ◌^◌, min, ◌≡◌, List, [], ◌∷◌, ◌++◌, Bool, true, false, length, take}
+use Rattle.std.specs.Prelude.{ℕ, ◌+◌, ◌-◌, ◌≤◌, ◌^◌, min, ◌≡◌, List, [], ◌∷◌, ◌++◌, Bool, true, false, length, take, Result}
 use Rattle.codec.specs.Bytes.{part}
 use Rattle.checksum.specs.Checksum.{trailer}
 use Rattle.codec.specs.Put.{put}
-use Rattle.codec.specs.Varint.{handle_bytes}
+use Rattle.codec.specs.Varint.{Handle, handle_bytes}
+use Rattle.codec.specs.declared.put.NoRoom.{NoRoom}
 use Rattle.block_builder.specs.declared.block_builder.BlockBuilder.{BlockBuilder}
-use Rattle.block_builder.specs.declared.block_builder.Added.{Added}
 use Rattle.blocks.specs.Block.{Pair, tail_bytes, block_bytes}
 use Rattle.block_builder.specs.Builder as Blocks
 use Rattle.blocks.specs.Count.{count_size}
@@ -38,22 +38,24 @@ pub record ClosedOut (closing : Bool) (b : BlockBuilder) (at : ℕ) (out out' re
 
 -- indexed under a key
 pub record ClosedIndex (closing : Bool) (b : BlockBuilder) (at : ℕ) (indexed : BlockBuilder) (key index index' restarts restarts' : List ℕ) : Type 0 where
-  pub added : Added
-  pub done : closing ≡ true → AddedIs indexed 0 index index' restarts restarts' key (handle_bytes (record { offset = at; size = size_of b })) added
+  pub added : Result (Unit {0}) NoRoom
+  pub after : BlockBuilder
+  pub done : closing ≡ true → AddedIs indexed 0 index index' restarts restarts' key (handle_bytes (record { offset = at; size = size_of b })) added after
   pub kept : closing ≡ false → (index' ≡ index) × (restarts' ≡ restarts)
 
--- more filters, or not: of the first waiting hashes, until there are n
-pub record MoreFilters (more : Bool) (c : Filtering) (n waiting bytes made : ℕ) (filters filters' offsets offsets' hashes : List ℕ) : Type 0 where
-  pub said : Made
-  pub done : more ≡ true → MadeFilters c (groups_up_to made n (take waiting hashes)) bytes made said filters filters' offsets offsets'
+-- more filters, or not: of the hashes that wait, until there are n
+pub record MoreFilters (more : Bool) (c : Filtering) (n bytes made : ℕ) (filters filters' offsets offsets' waiting : List ℕ) : Type 0 where
+  pub said : Result Made NoRoom
+  pub done : more ≡ true → MadeFilters c (groups_up_to made n waiting) bytes made said filters filters' offsets offsets'
   pub kept : more ≡ false → (filters' ≡ filters) × (offsets' ≡ offsets)
 
 -- ---- an entry
 
 -- an entry written into a block that starts at a place of out, and its word's hash behind those that wait
 pub record EnteredRuns (b : BlockBuilder) (at waiting : ℕ) (key word value out out' restarts restarts' hashes hashes' : List ℕ) : Type 0 where
-  pub added : Added
-  pub entry : AddedIs b at out out' restarts restarts' key value added
+  pub added : Result (Unit {0}) NoRoom
+  pub after : BlockBuilder
+  pub entry : AddedIs b at out out' restarts restarts' key value added after
   pub hash : hashes' ≡ put hashes waiting (hash word ∷ [])
 
 -- ---- the end
@@ -66,23 +68,17 @@ pub record Framed (out : List ℕ) (at : ℕ) (bs out' : List ℕ) : Type 0 wher
 pub record IndexPut (b : BlockBuilder) (index restarts : List ℕ) (at : ℕ) (out out' : List ℕ) : Type 0 where
   pub wrote : (i : ℕ) (ps : List Pair) → Blocks.Stands i ps b 0 index restarts → Framed out at (block_bytes i ps) out'
 
--- the end of a table has numbers of 64 bits, and what it is written from stands within runs of such lengths
-pub record EndFits (at bytes made : ℕ) (indexed : BlockBuilder) (filters offsets index : ℕ) : Type 0 where
+-- the end of a table has numbers of 64 bits, and the index block's entries stand within a run of such a length
+pub record EndFits (at bytes made : ℕ) (indexed : BlockBuilder) (index : ℕ) : Type 0 where
   pub written : at ≤ 2 ^ 40
   pub filter_bytes : bytes ≤ 2 ^ 40
   pub filter_count : made ≤ 2 ^ 40
   pub index_size : count_size (count_in indexed) ≤ 2 ^ 40
-  pub in_filters : bytes ≤ filters
-  pub in_offsets : made ≤ offsets
   pub in_index : indexed.bytes ≤ index
 
--- the filter block at the end
-unfoldable pub filter_block : ℕ → ℕ → List ℕ → List ℕ → List ℕ
-filter_block bytes made filters offsets = filter_block_of (take bytes filters) (take made offsets)
-
--- the metaindex block at the end, of a filter block of such a size at a place
-unfoldable pub meta_block : ℕ → Filtering → ℕ → ℕ → List ℕ
-meta_block interval c at size = block_bytes interval (record { key = meta_name c; value = handle_bytes (record { offset = at; size = size }) } ∷ [])
+-- the metaindex block at the end, by the handle of a filter block
+unfoldable pub meta_block : ℕ → Filtering → Handle → List ℕ
+meta_block interval c h = block_bytes interval (record { key = meta_name c; value = handle_bytes h } ∷ [])
 
 -- a whole table: the data blocks, then filter block, metaindex, index and footer
 abbrev pub whole : List ℕ → List ℕ → List ℕ → List ℕ → List ℕ
@@ -92,14 +88,14 @@ whole w fb mb ib =
     u ++ framed ib ++ footer_bytes (record { offset = length t; size = length mb }) (record { offset = length u; size = length ib })
 
 -- filter block, metaindex, index and footer behind the data blocks, where there is room
-pub record EndPut (interval : ℕ) (c : Filtering) (at bytes made : ℕ) (indexed : BlockBuilder) (filters offsets index restarts out out' : List ℕ) : Type 0 where
+pub record EndPut (interval : ℕ) (c : Filtering) (at : ℕ) (indexed : BlockBuilder) (filters offsets index restarts out out' : List ℕ) : Type 0 where
   pub wrote : 1 ≤ interval → interval ≤ 1024 → (i : ℕ) (ps : List Pair) → Blocks.Stands i ps indexed 0 index restarts
       → (w r : List ℕ) → out ≡ overlay w r → length w ≡ at
-      → (let fb = filter_block bytes made filters offsets in
-      let all = whole w fb (meta_block interval c at (length fb)) (block_bytes i ps) in
+      → (let fb = filter_block_of filters offsets in
+      let all = whole w fb (meta_block interval c (record { offset = at; size = length fb })) (block_bytes i ps) in
       length all ≤ length r → out' ≡ overlay all r)
 
 -- the end written, or nothing
-pub record EndWritten (interval : ℕ) (c : Filtering) (at bytes made : ℕ) (indexed : BlockBuilder) (filters offsets index restarts out out' : List ℕ) : Type 0 where
-  pub done : EndFits at bytes made indexed (length filters) (length offsets) (length index) → EndPut interval c at bytes made indexed filters offsets index restarts out out'
-  pub kept : (EndFits at bytes made indexed (length filters) (length offsets) (length index) → ⊥) → out' ≡ out
+pub record EndWritten (interval : ℕ) (c : Filtering) (at : ℕ) (indexed : BlockBuilder) (filters offsets index restarts out out' : List ℕ) : Type 0 where
+  pub done : EndFits at (length filters) (length offsets) indexed (length index) → EndPut interval c at indexed filters offsets index restarts out out'
+  pub kept : (EndFits at (length filters) (length offsets) indexed (length index) → ⊥) → out' ≡ out

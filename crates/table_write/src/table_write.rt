@@ -1,108 +1,89 @@
 // What is written of a table while it is built: entries, blocks that are closed, filters, and the end. Each function takes the runs
 // that it changes and the numbers that it goes by: nothing is decided here.
-ghost use Rattle.std.specs.Prelude.{◌≡◌, true, [], ◌∷◌, ◌+◌, ◌^◌, ◌≤◌, ◌<◌, length, take};
+ghost use Rattle.std.specs.Prelude.{◌≡◌, true, [], ◌∷◌, ◌+◌, ◌^◌, ◌≤◌, ◌<◌, ◌↔◌, IsTrue, length, take};
 ghost use Rattle.codec.specs.Put.{put};
 ghost use Rattle.codec.specs.Varint.{handle_bytes};
 ghost use Rattle.blocks.specs.Block.{block_bytes};
 ghost use Rattle.blocks.specs.Count.{count_size};
-ghost use Rattle.block_builder.specs.Builder as Blocks;
 ghost use Rattle.block_builder.specs.Builder.{count_in};
 ghost use Rattle.bloom.specs.Choice.{choice_of};
 ghost use Rattle.filters.specs.FilterBlock.{filter_block_of};
 ghost use Rattle.table.specs.Build.{meta_name, footer_bytes};
 ghost use Rattle.table.specs.Counts.{meta_size};
-ghost use Rattle.table_write.specs.Writes.{sealed_out, ClosedOut, ClosedIndex, MoreFilters, EnteredRuns, Framed, IndexPut, EndFits, EndPut, EndWritten};
+ghost use Rattle.table_write.specs.Writes.{sealed_out, ClosedOut, ClosedIndex, MoreFilters, EnteredRuns, Framed, IndexPut, meta_block, EndFits, EndPut, EndWritten};
 
 use block_builder::block_builder::BlockBuilder;
-use bloom::filter::Filter;
-use codec::put::Written;
+use bloom::filter::bloom_hash;
+use checksum::trailer::put_trailer;
+use codec::blockhandle::{BlockHandle, encode_to};
+use codec::put::put_bytes;
 use codec::varint::varint_len;
+use filter_block::filter_block::make_filters;
 
 // Writes the restarts and the trailer of a block, whose entries stand at a place of out.
-fn seal_block(out: &mut [u8], at: usize, block: BlockBuilder, restarts: &[u32])
-    ensures { out.new ≡ sealed_out out.old at block restarts.now }
+fn seal_block(out: &mut [u8], at: usize, block: &BlockBuilder, restarts: &[u32])
+    ensures { out.new ≡ sealed_out out.old at block.now restarts.now }
 {
     let size = block.size_estimate();
-    block.finish(out, at, restarts);
-    checksum::trailer::put_trailer(out, at, size);
+    let _ = block.finish(out, at, restarts);
+    let _ = put_trailer(out, at, size);
 }
 
 // Of a block that is closed: its restarts and its trailer.
-pub fn close_out(closing: bool, block: BlockBuilder, at: usize, out: &mut [u8], restarts: &[u32])
-    ensures { ClosedOut closing block at out.old out.new restarts.now }
+pub fn close_out(closing: bool, block: &BlockBuilder, at: usize, out: &mut [u8], restarts: &[u32])
+    ensures { ClosedOut closing block.now at out.old out.new restarts.now }
 {
-    if !closing {
-        return;
-    }
-    seal_block(out, at, block, restarts);
-}
-
-// Adds an entry to the index: a key, and the handle of a block.
-fn index_block(
-    indexed: BlockBuilder,
-    index: &mut [u8],
-    restarts: &mut [u32],
-    key: &[u8],
-    offset: usize,
-    size: usize,
-) -> block_builder::block_builder::Added
-    ensures { Blocks.AddedIs indexed 0 index.old index.new restarts.old restarts.new key.now (handle_bytes (record { offset = offset; size = size })) result }
-{
-    let mut handle = [0u8; 20];
-    match codec::blockhandle::encode_to(&mut handle, 0, offset, size) {
-        Written::NoRoom => indexed.add(index, 0, restarts, key, b""),
-        Written::At(n) => indexed.add(index, 0, restarts, key, &handle[..n]),
+    if closing {
+        seal_block(out, at, block, restarts);
     }
 }
 
-// Of a block that is closed, and stands at a place: its index entry, under the first len bytes of last.
+// The bytes of a handle go to the front of 20; how many they are.
+fn put_handle(bytes: &mut [u8], handle: BlockHandle) -> usize
+    requires { length bytes.old ≡ 20 }
+    ensures { (result ≤ 20) × ((length bytes.new ≡ 20) × (take result bytes.new ≡ handle_bytes handle)) }
+{
+    encode_to(bytes, 0, handle).unwrap_or(0)
+}
+
+// Of a block that is closed, and stands at a place: its index entry, under a key.
 pub fn close_index(
     closing: bool,
-    block: BlockBuilder,
+    block: &BlockBuilder,
     at: usize,
-    indexed: BlockBuilder,
-    last: &[u8],
-    len: usize,
+    indexed: &BlockBuilder,
+    key: &[u8],
     index: &mut [u8],
     restarts: &mut [u32],
 )
-    ensures { ClosedIndex closing block at indexed (take len last.now) index.old index.new restarts.old restarts.new }
+    ensures { ClosedIndex closing block.now at indexed.now key.now index.old index.new restarts.old restarts.new }
 {
     if !closing {
         return;
     }
     let size = block.size_estimate();
-    let n = codec::limits::least(len, last.len());
-    index_block(indexed, index, restarts, &last[..n], at, size);
+    let mut bytes = [0u8; 20];
+    let n = put_handle(&mut bytes, BlockHandle { offset: at, size });
+    let mut indexed = *indexed;
+    let _ = indexed.add(index, 0, restarts, key, &bytes[..n]);
 }
 
-// More filters, if so said: of the first waiting hashes, until there are n.
+// More filters, if so said: of the hashes that wait, until there are n.
 pub fn more_filters(
     more: bool,
-    choice: Filter,
-    hashes: &[u32],
-    waiting: usize,
+    choice: Option<u32>,
+    waiting: &[u32],
     n: usize,
     filters: &mut [u8],
     bytes: usize,
     offsets: &mut [u32],
     made: usize,
 )
-    ensures { MoreFilters more (choice_of choice) n waiting bytes made filters.old filters.new offsets.old offsets.new hashes.now }
+    ensures { MoreFilters more (choice_of choice) n bytes made filters.old filters.new offsets.old offsets.new waiting.now }
 {
-    if !more {
-        return;
+    if more {
+        let _ = make_filters(choice, waiting, n, filters, bytes, offsets, made);
     }
-    let k = codec::limits::least(waiting, hashes.len());
-    filter_block::filter_block::make_filters(
-        choice,
-        &hashes[..k],
-        n,
-        filters,
-        bytes,
-        offsets,
-        made,
-    );
 }
 
 // Puts a hash behind those that wait.
@@ -116,7 +97,7 @@ fn push_hash(hashes: &mut [u32], n: usize, x: u32)
 
 // Writes an entry into a block that starts at a place of out, and its word's hash behind those that wait.
 pub fn write_entry(
-    pending: BlockBuilder,
+    pending: &BlockBuilder,
     at: usize,
     waiting: usize,
     key: &[u8],
@@ -126,27 +107,19 @@ pub fn write_entry(
     restarts: &mut [u32],
     hashes: &mut [u32],
 )
-    ensures { EnteredRuns pending at waiting key.now word.now value.now out.old out.new restarts.old restarts.new hashes.old hashes.new }
+    ensures { EnteredRuns pending.now at waiting key.now word.now value.now out.old out.new restarts.old restarts.new hashes.old hashes.new }
 {
-    pending.add(out, at, restarts, key, value);
-    push_hash(hashes, waiting, bloom::filter::bloom_hash(word));
+    let mut pending = *pending;
+    let _ = pending.add(out, at, restarts, key, value);
+    push_hash(hashes, waiting, bloom_hash(word));
 }
 
 // Writes the filter block and its trailer at a place of out.
-fn put_filter(
-    out: &mut [u8],
-    at: usize,
-    filters: &[u8],
-    bytes: usize,
-    offsets: &[u32],
-    made: usize,
-    size: usize,
-)
-    requires { (bytes ≤ length filters.now) × (made ≤ length offsets.now) }
-    ensures { size ≡ length (filter_block_of (take bytes filters.now) (take made offsets.now)) → Framed out.old at (filter_block_of (take bytes filters.now) (take made offsets.now)) out.new }
+fn put_filter(out: &mut [u8], at: usize, filters: &[u8], offsets: &[u32], size: usize)
+    ensures { size ≡ length (filter_block_of filters.now offsets.now) → Framed out.old at (filter_block_of filters.now offsets.now) out.new }
 {
-    filter_block::filter_block::finish(out, at, &filters[..bytes], &offsets[..made]);
-    checksum::trailer::put_trailer(out, at, size);
+    let _ = filter_block::filter_block::finish(out, at, filters, offsets);
+    let _ = put_trailer(out, at, size);
 }
 
 // Writes a block of one entry and its trailer at a place of out.
@@ -154,81 +127,57 @@ fn put_one(out: &mut [u8], at: usize, interval: usize, name: &[u8], value: &[u8]
     ensures { 1 ≤ interval → interval ≤ 1024 → length name.now ≤ 1032 → length value.now ≤ 32768 → Framed out.old at (block_bytes interval (record { key = name.now; value = value.now } ∷ [])) out.new }
 {
     let mut restarts = [0u32; 1];
-    let block = BlockBuilder::new(interval);
-    let added = block.add(out, at, &mut restarts, name, value);
-    let one = added.block;
-    seal_block(out, at, one, &restarts);
+    let mut block = BlockBuilder::new(interval);
+    let _ = block.add(out, at, &mut restarts, name, value);
+    seal_block(out, at, &block, &restarts);
 }
 
-// How many bytes the metaindex entry's name has.
-fn name_len(f: Filter) -> usize
-    ensures { result ≡ length (meta_name (choice_of f)) }
+// The name of the metaindex entry.
+fn meta_name(filter: Option<u32>) -> &'static [u8]
+    ensures { result.now ≡ meta_name (choice_of filter) }
 {
-    match f {
-        Filter::None => 8,
-        Filter::Bits(_) => 34,
+    match filter {
+        None => b"filter._",
+        Some(_) => b"filter.leveldb.BuiltinBloomFilter2",
     }
 }
 
-// The metaindex block's bytes.
-pub fn meta_size(f: Filter, offset: usize, size: usize) -> usize
-    ensures { (result ≡ meta_size (choice_of f) offset size) × (result < 200) }
+// The bytes of the metaindex block, which names a filter block by its handle.
+pub fn meta_size(filter: Option<u32>, handle: BlockHandle) -> usize
+    ensures { (result ≡ meta_size (choice_of filter) handle.offset handle.size) × (result < 200) }
 {
-    let handle = varint_len(offset) + varint_len(size);
-    let n = name_len(f);
-    1 + varint_len(n) + varint_len(handle) + n + handle + 8
+    let name = meta_name(filter).len();
+    let value = varint_len(handle.offset) + varint_len(handle.size);
+    1 + varint_len(name) + varint_len(value) + name + value + 8
 }
 
 // Writes the metaindex and its trailer at a place of out.
-fn put_meta(out: &mut [u8], at: usize, interval: usize, filter: Filter, offset: usize, size: usize)
-    ensures { 1 ≤ interval → interval ≤ 1024 → Framed out.old at (block_bytes interval (record { key = meta_name (choice_of filter); value = handle_bytes (record { offset = offset; size = size }) } ∷ [])) out.new }
+fn put_meta(out: &mut [u8], at: usize, interval: usize, filter: Option<u32>, handle: BlockHandle)
+    ensures { 1 ≤ interval → interval ≤ 1024 → Framed out.old at (meta_block interval (choice_of filter) handle) out.new }
 {
-    let mut handle = [0u8; 20];
-    match codec::blockhandle::encode_to(&mut handle, 0, offset, size) {
-        Written::NoRoom => {}
-        Written::At(n) => match filter {
-            Filter::None => put_one(out, at, interval, b"filter._", &handle[..n]),
-            Filter::Bits(_) => put_one(
-                out,
-                at,
-                interval,
-                b"filter.leveldb.BuiltinBloomFilter2",
-                &handle[..n],
-            ),
-        },
-    }
+    let mut bytes = [0u8; 20];
+    let n = put_handle(&mut bytes, handle);
+    put_one(out, at, interval, meta_name(filter), &bytes[..n]);
 }
 
 // Writes the index block and its trailer at a place of out.
-fn put_index(out: &mut [u8], at: usize, indexed: BlockBuilder, index: &[u8], restarts: &[u32])
-    requires { (count_size (count_in indexed) ≤ 2 ^ 40) × (indexed.bytes ≤ length index.now) }
-    ensures { IndexPut indexed index.now restarts.now at out.old out.new }
+fn put_index(out: &mut [u8], at: usize, indexed: &BlockBuilder, index: &[u8], restarts: &[u32])
+    requires { (count_size (count_in indexed.now) ≤ 2 ^ 40) × (indexed.now.bytes ≤ length index.now) }
+    ensures { IndexPut indexed.now index.now restarts.now at out.old out.new }
 {
-    let n = indexed.bytes;
-    codec::put::put_bytes(out, at, &index[..n]);
+    let _ = put_bytes(out, at, &index[..indexed.bytes]);
     seal_block(out, at, indexed, restarts);
 }
 
 // The footer: both handles, zeros up to 40 bytes, and the magic.
-fn put_footer(
-    out: &mut [u8],
-    at: usize,
-    meta_offset: usize,
-    meta_size: usize,
-    index_offset: usize,
-    index_size: usize,
-)
-    ensures { out.new ≡ put out.old at (footer_bytes (record { offset = meta_offset; size = meta_size }) (record { offset = index_offset; size = index_size })) }
+fn put_footer(out: &mut [u8], at: usize, metaindex: BlockHandle, index: BlockHandle)
+    ensures { out.new ≡ put out.old at (footer_bytes metaindex index) }
 {
     let mut foot = [0u8; 48];
-    match codec::blockhandle::encode_to(&mut foot, 0, meta_offset, meta_size) {
-        Written::NoRoom => {}
-        Written::At(n) => {
-            codec::blockhandle::encode_to(&mut foot, n, index_offset, index_size);
-            codec::put::put_bytes(&mut foot, 40, b"\x57\xfb\x80\x8b\x24\x75\x47\xdb");
-            codec::put::put_bytes(out, at, &foot);
-        }
-    }
+    let n = encode_to(&mut foot, 0, metaindex).unwrap_or(0);
+    let _ = encode_to(&mut foot, n, index);
+    let _ = put_bytes(&mut foot, 40, b"\x57\xfb\x80\x8b\x24\x75\x47\xdb");
+    let _ = put_bytes(out, at, &foot);
 }
 
 // Writes filter block, metaindex, index and footer at a place of out.
@@ -236,86 +185,69 @@ fn put_end(
     out: &mut [u8],
     at: usize,
     interval: usize,
-    filter: Filter,
+    filter: Option<u32>,
     filters: &[u8],
-    bytes: usize,
     offsets: &[u32],
-    made: usize,
-    indexed: BlockBuilder,
+    indexed: &BlockBuilder,
     index: &[u8],
     restarts: &[u32],
 )
-    requires { EndFits at bytes made indexed (length filters.now) (length offsets.now) (length index.now) }
-    ensures { EndPut interval (choice_of filter) at bytes made indexed filters.now offsets.now index.now restarts.now out.old out.new }
+    requires { EndFits at (length filters.now) (length offsets.now) indexed.now (length index.now) }
+    ensures { EndPut interval (choice_of filter) at indexed.now filters.now offsets.now index.now restarts.now out.old out.new }
 {
-    let block = bytes + 4 * made + 5;
-    put_filter(out, at, filters, bytes, offsets, made, block);
-    let meta_at = at + block + 5;
-    let meta = meta_size(filter, at, block);
-    put_meta(out, meta_at, interval, filter, at, block);
-    let index_at = meta_at + meta + 5;
-    put_index(out, index_at, indexed, index, restarts);
-    let size = indexed.size_estimate();
-    put_footer(out, index_at + size + 5, meta_at, meta, index_at, size);
+    let size = filters.len() + 4 * offsets.len() + 5;
+    let filter_block = BlockHandle { offset: at, size };
+    put_filter(out, at, filters, offsets, size);
+    let metaindex = BlockHandle {
+        offset: at + size + 5,
+        size: meta_size(filter, filter_block),
+    };
+    put_meta(out, metaindex.offset, interval, filter, filter_block);
+    let index_block = BlockHandle {
+        offset: metaindex.offset + metaindex.size + 5,
+        size: indexed.size_estimate(),
+    };
+    put_index(out, index_block.offset, indexed, index, restarts);
+    let end = index_block.offset + index_block.size + 5;
+    put_footer(out, end, metaindex, index_block);
 }
 
-// Whether the numbers of a table's end are far below 64 bits, and what it is written from stands within runs of such lengths.
+// Whether the numbers of a table's end are far below 64 bits, and the index block's entries stand within its run.
 fn end_fits(
     at: usize,
-    bytes: usize,
-    made: usize,
-    indexed: BlockBuilder,
-    filters: usize,
-    offsets: usize,
-    index: usize,
+    filters: &[u8],
+    offsets: &[u32],
+    indexed: &BlockBuilder,
+    index: &[u8],
 ) -> bool
-    ensures { (result ≡ true → EndFits at bytes made indexed filters offsets index) × (EndFits at bytes made indexed filters offsets index → result ≡ true) }
+    ensures { IsTrue result ↔ EndFits at (length filters.now) (length offsets.now) indexed.now (length index.now) }
 {
     let limit = 0x0100_0000_0000;
-    if limit < at {
-        return false;
-    }
-    if codec::limits::least(limit, filters) < bytes {
-        return false;
-    }
-    if codec::limits::least(limit, offsets) < made {
-        return false;
-    }
-    if limit < indexed.size_estimate() {
-        return false;
-    }
-    indexed.bytes <= index
+    at <= limit
+        && filters.len() <= limit
+        && offsets.len() <= limit
+        && indexed.size_estimate() <= limit
+        && indexed.bytes <= index.len()
 }
 
-// Writes filter block, metaindex, index and footer at a place of out, the end of the data blocks: of the first bytes of filters, the
-// first made offsets, and the index block that stands in index and restarts. Nothing, where these do not lie within their runs.
+// Writes filter block, metaindex, index and footer at a place of out, the end of the data blocks: of the filters and where each
+// starts, and the index block that stands in index and restarts. Nothing, where that block does not lie within its run.
 pub fn write_end(
     out: &mut [u8],
     at: usize,
     interval: usize,
-    filter: Filter,
+    filter: Option<u32>,
     filters: &[u8],
-    bytes: usize,
     offsets: &[u32],
-    made: usize,
-    indexed: BlockBuilder,
+    indexed: &BlockBuilder,
     index: &[u8],
     restarts: &[u32],
 )
-    ensures { EndWritten interval (choice_of filter) at bytes made indexed filters.now offsets.now index.now restarts.now out.old out.new }
+    ensures { EndWritten interval (choice_of filter) at indexed.now filters.now offsets.now index.now restarts.now out.old out.new }
 {
-    if !end_fits(
-        at,
-        bytes,
-        made,
-        indexed,
-        filters.len(),
-        offsets.len(),
-        index.len(),
-    ) {
-        return;
+    if end_fits(at, filters, offsets, indexed, index) {
+        put_end(
+            out, at, interval, filter, filters, offsets, indexed, index, restarts,
+        );
     }
-    put_end(
-        out, at, interval, filter, filters, bytes, offsets, made, indexed, index, restarts,
-    );
 }

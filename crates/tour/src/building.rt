@@ -1,172 +1,113 @@
 // Building the table of the list's entries.
-use crate::{list, say};
-use bloom::filter::Filter;
+use crate::list::{Kind, Line};
+use crate::say;
 use builder::table_builder;
-use builder::table_builder::{Answer, Builder, Options, Outcome};
+use builder::table_builder::{Builder, Options, Runs};
+use std::alloc::{AllocError, Global};
 use std::io;
 use std::io::Write;
+use table_block::refusal::Refusal;
 
 // How long the runs are, those of bytes and those of numbers.
-pub const BYTES: usize = 4096;
+const BYTES: usize = 4096;
 
 const NUMBERS: usize = 1024;
 
-// An entry without cells is a deletion.
-fn kind(cells: &[u8]) -> u8 {
-    if cells.len() == 0 { 0 } else { 1 }
+// Every entry is a restart, so that no key hangs on the one before it; a block is cut when it is over 320 bytes.
+const OPTIONS: Options = Options {
+    block_size: 320,
+    interval: 1,
+    filter: Some(10),
+};
+
+// The memory of the runs that a table is built in.
+#[derive(Drop)]
+struct Memory {
+    out: Vec<u8>,
+    index: Vec<u8>,
+    filters: Vec<u8>,
+    restarts: Vec<u32>,
+    index_restarts: Vec<u32>,
+    offsets: Vec<u32>,
+    hashes: Vec<u32>,
 }
 
-// An entry that is refused is told.
-fn tell<W: Write>(writer: &mut W, line: &[u8], a: Answer) -> io::Result<()> {
-    match a {
-        Answer::Ok => Ok(()),
-        Answer::Refused(n) => {
-            say::of(writer, list::word(line), list::edition(line))?;
-            say::refused(writer, n)
+impl Memory {
+    fn new(alloc: Global) -> Result<Self, AllocError> {
+        Ok(Memory {
+            out: vec![in alloc; 0; BYTES]?,
+            index: vec![in alloc; 0; BYTES]?,
+            filters: vec![in alloc; 0; BYTES]?,
+            restarts: vec![in alloc; 0; NUMBERS]?,
+            index_restarts: vec![in alloc; 0; NUMBERS]?,
+            offsets: vec![in alloc; 0; NUMBERS]?,
+            hashes: vec![in alloc; 0; NUMBERS]?,
+        })
+    }
+
+    // The runs, lent for one call.
+    fn runs(&mut self) -> Runs<'_> {
+        Runs {
+            out: self.out.as_mut_slice(),
+            index: self.index.as_mut_slice(),
+            filters: self.filters.as_mut_slice(),
+            restarts: self.restarts.as_mut_slice(),
+            index_restarts: self.index_restarts.as_mut_slice(),
+            offsets: self.offsets.as_mut_slice(),
+            hashes: self.hashes.as_mut_slice(),
         }
     }
 }
 
-// Adds the entry of a line, if it has one.
-fn add<W: Write>(
-    writer: &mut W,
-    line: &[u8],
-    state: Builder,
-    out: &mut [u8; BYTES],
-    index: &mut [u8; BYTES],
-    filters: &mut [u8; BYTES],
-    restarts: &mut [u32; NUMBERS],
-    index_restarts: &mut [u32; NUMBERS],
-    offsets: &mut [u32; NUMBERS],
-    hashes: &mut [u32; NUMBERS],
-) -> io::Result<Builder> {
-    if !list::is(line, b'+') {
-        return Ok(state);
-    }
-    let cells = list::cells(line);
-    let r = state.add(
-        out,
-        index,
-        filters,
-        restarts,
-        index_restarts,
-        offsets,
-        hashes,
-        list::word(line),
-        list::edition(line),
-        kind(cells),
-        cells,
-    );
-    let answer = r.answer;
-    let after = r.state;
-    tell(writer, line, answer)?;
-    Ok(after)
+// Adds an entry. One without cells is a deletion.
+fn add(builder: &mut Builder, memory: &mut Memory, entry: &Line) -> Result<(), Refusal> {
+    let kind = u8::from(!entry.cells.is_empty());
+    builder.add(memory.runs(), entry.word, entry.edition, kind, entry.cells)
 }
 
-// Adds every entry, and finishes the table: its size, 0 if it is refused.
+// Adds every entry, and tells of those that are refused.
 fn add_all<W: Write>(
     writer: &mut W,
-    s: &[u8],
-    begun: Builder,
-    out: &mut [u8; BYTES],
-    index: &mut [u8; BYTES],
-    filters: &mut [u8; BYTES],
-    restarts: &mut [u32; NUMBERS],
-    index_restarts: &mut [u32; NUMBERS],
-    offsets: &mut [u32; NUMBERS],
-    hashes: &mut [u32; NUMBERS],
-) -> io::Result<usize> {
-    let mut state = begun;
-    let mut at: usize = 0;
-    for _ in 0..list::MOST {
-        let next = add(
-            writer,
-            list::line(s, at),
-            state,
-            out,
-            index,
-            filters,
-            restarts,
-            index_restarts,
-            offsets,
-            hashes,
-        )?;
-        state = next;
-        at = list::next(s, at);
-    }
-    let f = state.finish(
-        out,
-        index,
-        filters,
-        restarts,
-        index_restarts,
-        offsets,
-        hashes,
-    );
-    let outcome = f.answer;
-    finished(writer, outcome)
-}
-
-// Tells of the finished table; its size.
-fn finished<W: Write>(writer: &mut W, o: Outcome) -> io::Result<usize> {
-    match o {
-        Outcome::Size(size) => {
-            say::say(writer, b"The table of them was built. It has ")?;
-            say::number(writer, size)?;
-            say::say(writer, b" bytes.\n")?;
-            Ok(size)
-        }
-        Outcome::Refused(n) => {
-            say::refused(writer, n)?;
-            Ok(0)
+    list: &[Line],
+    builder: &mut Builder,
+    memory: &mut Memory,
+) -> io::Result<()> {
+    for entry in list.iter().filter(|line| line.kind == Kind::Entry) {
+        if let Err(refusal) = add(builder, memory, entry) {
+            say::of(writer, entry.word, entry.edition)?;
+            say::refused(writer, refusal)?;
         }
     }
+    Ok(())
 }
 
-// Every entry is a restart, so that no key hangs on the one before it; a block is cut when it is over 320 bytes.
-pub fn build<W: Write>(writer: &mut W, s: &[u8], out: &mut [u8; BYTES]) -> io::Result<usize> {
-    say::say(writer, b"The list has ")?;
-    say::number(writer, list::count(s, b'+'))?;
-    say::say(writer, b" entries.\n")?;
-    let mut index = [0u8; BYTES];
-    let mut filters = [0u8; BYTES];
-    let mut restarts = [0u32; NUMBERS];
-    let mut index_restarts = [0u32; NUMBERS];
-    let mut offsets = [0u32; NUMBERS];
-    let mut hashes = [0u32; NUMBERS];
-    let options = Options {
-        block_size: 320,
-        interval: 1,
-        filter: Filter::Bits(10),
+// The table, none if it is refused.
+pub fn build<W: Write>(
+    alloc: Global,
+    writer: &mut W,
+    list: &[Line],
+) -> io::Result<Option<Vec<u8>>> {
+    let entries = list.iter().filter(|line| line.kind == Kind::Entry).count();
+    writeln!(writer, "The list has {entries} entries.")?;
+    let mut memory = Memory::new(alloc)?;
+    let mut builder = match table_builder::start(OPTIONS, memory.runs()) {
+        Ok(builder) => builder,
+        Err(refusal) => {
+            say::refused(writer, refusal)?;
+            return Ok(None);
+        }
     };
-    let r = table_builder::start(
-        options,
-        out,
-        &mut index,
-        &mut filters,
-        &mut restarts,
-        &mut index_restarts,
-        &mut offsets,
-        &mut hashes,
-    );
-    let begun = r.state;
-    let answer = r.answer;
-    match answer {
-        Answer::Ok => add_all(
-            writer,
-            s,
-            begun,
-            out,
-            &mut index,
-            &mut filters,
-            &mut restarts,
-            &mut index_restarts,
-            &mut offsets,
-            &mut hashes,
-        ),
-        Answer::Refused(n) => {
-            say::refused(writer, n)?;
-            Ok(0)
+    add_all(writer, list, &mut builder, &mut memory)?;
+    match builder.finish(memory.runs()) {
+        Ok(size) => {
+            writeln!(writer, "The table of them was built. It has {size} bytes.")?;
+            let mut table = memory.out;
+            table.truncate(size);
+            Ok(Some(table))
+        }
+        Err(refusal) => {
+            say::refused(writer, refusal)?;
+            Ok(None)
         }
     }
 }

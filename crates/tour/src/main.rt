@@ -9,40 +9,29 @@ mod list;
 mod reading;
 mod say;
 
-use building::BYTES;
-use list::part;
+use std::alloc::Global;
 use std::io;
 use std::io::{BufWriter, Read, Write};
 
-// What is read of the finished table, and then of damaged copies.
-fn visit<W: Write>(
-    writer: &mut W,
-    s: &[u8],
-    table: &mut [u8; BYTES],
-    size: usize,
-) -> io::Result<()> {
-    let t = part(table, 0, size);
-    reading::check(writer, t)?;
-    reading::questions(writer, s, t)?;
-    reading::walk(writer, t)?;
-    damage::three(writer, table, size)
-}
-
 // A table is built of the list and read, and then damaged copies of it.
-fn tour<W: Write>(writer: &mut W, s: &[u8]) -> io::Result<()> {
-    let mut table = [0u8; BYTES];
-    let size = building::build(writer, s, &mut table)?;
-    if 0 < size {
-        visit(writer, s, &mut table, size)?;
-    }
-    Ok(())
+fn tour<W: Write>(alloc: Global, writer: &mut W, text: &[u8]) -> io::Result<()> {
+    let lines = list::read(alloc, text)?;
+    let list = lines.as_slice();
+    let Some(mut table) = building::build(alloc, writer, list)? else {
+        return Ok(());
+    };
+    reading::check(writer, table.as_slice())?;
+    reading::questions(writer, list, table.as_slice())?;
+    reading::walk(writer, table.as_slice())?;
+    damage::three(writer, table.as_mut_slice())
 }
 
 // No more than 4096 bytes of standard input are read.
 fn main(rt: HostRuntime) -> io::Result<()> {
-    let mut input = Vec::new(rt.alloc());
-    rt.reader().take(4096).read_to_end(&mut input)?;
-    let mut writer = BufWriter::new(rt.alloc(), io::writer(&rt))?;
-    tour(&mut writer, input.as_slice())?;
+    let alloc = rt.alloc();
+    let mut text = Vec::new(alloc);
+    rt.reader().take(4096).read_to_end(&mut text)?;
+    let mut writer = BufWriter::new(alloc, io::writer(&rt))?;
+    tour(alloc, &mut writer, text.as_slice())?;
     writer.flush()
 }

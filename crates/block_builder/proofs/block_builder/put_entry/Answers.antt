@@ -14,11 +14,11 @@ put_head-requires c = let a = c.args in
     let h = head_bytes a.shared (length a.key.now - a.shared) (length a.value.now) in
     omega (arith, c.requires.1, ap length (entry_is a.shared a.key.now a.value.now), length-append h (take (length a.key.now - a.shared) (drop a.shared a.key.now) ++ a.value.now))
 
-pub returns-in_default : goal.returns-in_default
-returns-in_default c = absurd (never_first _ (rw entry_is at c.requires.1) c.put_head.ensures c.in_default.is)
+pub returns-in_err-tail : goal.returns-in_err-tail
+returns-in_err-tail c = absurd (never_first _ (rw entry_is at c.requires.1) c.put_head.ensures c.in_err-tail.was)
 
-pub returns-in_default-put_bytes : goal.returns-in_default-put_bytes
-returns-in_default-put_bytes c = absurd (never_second _ (rw entry_is at c.requires.1) c.put_head.ensures c.in-At.is c.put_bytes.ensures c.in_default-put_bytes.is)
+pub returns-in_err-rest : goal.returns-in_err-rest
+returns-in_err-rest c = absurd (never_second _ (rw entry_is at c.requires.1) c.put_head.ensures c.in_ok-tail.was c.put_bytes.ensures c.in_err-rest.was)
 
 pub returns : goal.returns
-returns c = rw entry_is (wrote_three (rw entry_is at c.requires.1) c.put_head.ensures c.in-At.is c.put_bytes.ensures c.in-At-put_bytes.is c.put_bytes-2.ensures)
+returns c = rw entry_is (wrote_three (rw entry_is at c.requires.1) c.put_head.ensures c.in_ok-tail.was c.put_bytes.ensures c.in_ok-rest.was c.put_bytes-2.ensures)

@@ -1,31 +1,23 @@
 -- `block_reader::block::first` meets its contract.
-use Prim.Native.Nat.{ℕ}
-use mathlib.Core.Path.{sym, ◌∙◌}
-use mathlib.Core.List.{List}
 use native.Mathlib.Omega.{arith}
 use lib.ListN.{take}
 use Rattle.blocks.specs.Search.{first_in, any_order}
 use Rattle.block_reader.specs.Steps.{Laid}
-use Rattle.block_reader.proofs.LayoutLaws.{laid, entries_size}
+use Rattle.block_reader.proofs.LayoutLaws.{entries_size}
+use Rattle.block_reader.proofs.ExitLaws.{none_exit}
 use Rattle.block_reader.proofs.FoundLaws.{said_from}
 use Rattle.block_reader.proofs.SeekLaws.{said_bad, from_start}
 use Rattle.block_reader.proofs.block.first.Goals as goal
-use Rattle.block_reader.proofs.block.first.Goals.{In-Rows}
 
-abbrev S : (c : In-Rows) → List ℕ
-S c = c.args.s.now
+pub returns-in_err-block : goal.returns-in_err-block
+returns-in_err-block c =
+    rw (none_exit c.new.result c.from_residual.ensures.1 c.in_err-block.ensures.value)
+    (said_bad _ first_in any_order _ (rw c.in_err-block.ensures.ok_part at c.new.ensures))
 
-abbrev end : (c : In-Rows) → ℕ
-end c = c.in-Rows.end
-
-lay : (c : In-Rows) → Laid (S c) (end c) c.in-Rows.count
-lay c = laid (S c) (sym c.layout.ensures ∙ c.in-Rows.is)
-
-pub slice_bounds-first_of-end : goal.slice_bounds-first_of-end
-slice_bounds-first_of-end c = sym (entries_size (S c) (lay c))
-
-pub returns-in-Bad : goal.returns-in-Bad
-returns-in-Bad c = said_bad _ first_in any_order _ (sym c.layout.ensures ∙ c.in-Bad.is)
-
-pub returns-in-Rows : goal.returns-in-Rows
-returns-in-Rows c = said_from (S (goal.at.returns-in-Rows c).In-Rows) (take (end (goal.at.returns-in-Rows c).In-Rows) (S (goal.at.returns-in-Rows c).In-Rows)) first_in any_order 0 _ (omega (arith, entries_size (S (goal.at.returns-in-Rows c).In-Rows) (lay (goal.at.returns-in-Rows c).In-Rows), (lay (goal.at.returns-in-Rows c).In-Rows).fits)) (from_start (S (goal.at.returns-in-Rows c).In-Rows) (lay (goal.at.returns-in-Rows c).In-Rows) first_in any_order) c.first_of.ensures
+pub returns : goal.returns
+returns c =
+    let b = c.in_ok-block.block in
+    let same = rw c.in_ok-block.ensures.ok_part at c.new.ensures in
+    let l : Laid c.args.s.now b.end b.count = rw same at b.laid in
+    said_from c.args.s.now (take b.end c.args.s.now) first_in any_order 0 _ (omega (arith, entries_size c.args.s.now l, l.fits)) (from_start c.args.s.now l first_in any_order)
+    (rw (c.entries.ensures, same, c.new-before.ensures) at c.entry_here.ensures)

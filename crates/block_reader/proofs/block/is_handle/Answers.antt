@@ -1,10 +1,8 @@
 -- `block_reader::block::is_handle` meets its contract.
-use mathlib.Core.Path.{sym, ◌∙◌}
-use Rattle.block_reader.proofs.FilledLaws.{not_handle, one_handle_is}
+use mathlib.Core.Path.{ap, ◌∙◌}
+use Rattle.std.specs.Prelude.{is_some}
+use Rattle.block_reader.proofs.FilledLaws.{one_handle_is}
 use Rattle.block_reader.proofs.block.is_handle.Goals as goal
 
-pub returns-in-None : goal.returns-in-None
-returns-in-None c = not_handle _ (sym c.one_handle.ensures ∙ c.in-None.is)
-
-pub returns-in-Handle : goal.returns-in-Handle
-returns-in-Handle c = one_handle_is _ (sym c.one_handle.ensures ∙ c.in-Handle.is)
+pub returns : goal.returns
+returns c = c.is_some.ensures ∙ ap is_some c.one_handle.ensures ∙ one_handle_is _

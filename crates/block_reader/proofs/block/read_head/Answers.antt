@@ -1,13 +1,8 @@
 -- `block_reader::block::read_head` meets its contract.
-use native.Mathlib.Omega.{arith}
 use Rattle.block_reader.proofs.EntryLaws.{short_head}
 use Rattle.block_reader.proofs.block.read_head.Goals as goal
 
-pub overflow_add-shared : goal.overflow_add-shared
-overflow_add-shared c = omega (arith, c.type_inv.rest 2, c.type_inv.rest 1, c.type_inv.rest 0)
-
-pub overflow_add-shared-2 : goal.overflow_add-shared-2
-overflow_add-shared-2 c = omega (arith, c.type_inv.rest 2, c.type_inv.rest 1, c.type_inv.rest 0)
-
-pub returns : goal.returns
-returns c = short_head c.args.rest.now (omega (arith, c.if-rest-lt3.false)) c.if-shared-fresh-ne0.false
+pub returns-in-len3-up : goal.returns-in-len3-up
+returns-in-len3-up c =
+    rw (c.from.ensures, c.from-in-len3-up.ensures, c.from-in-len3-up-2.ensures)
+    (short_head c.args.rest.now c.in-len3-up.len_at_least c.if-shared-lt128.true c.if-fresh-lt128.true c.if-value-lt128.true)

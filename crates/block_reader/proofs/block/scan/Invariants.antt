@@ -8,7 +8,7 @@ use Rattle.block_reader.proofs.WalkLaws.{Scanning, Same}
 use Rattle.block_reader.proofs.block.scan.Given as goal
 
 abbrev pub invariant-loop-at : goal.invariant-loop-at
-invariant-loop-at l = Scanning l.d l.from (Same (seek_in (record { word = l.word; edition = l.sequence }))) l.buf l.len l.at × (l.key ≡ l.initial.key)
+invariant-loop-at l = Scanning l.d l.from (Same (seek_in (record { word = l.word; edition = l.sequence }))) l.before l.at × (l.key ≡ l.initial.key)
 
 abbrev pub decreases-loop-at : goal.decreases-loop-at
 decreases-loop-at l = length l.d - l.at

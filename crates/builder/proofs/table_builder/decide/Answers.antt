@@ -5,21 +5,14 @@ use Rattle.builder.proofs.DecideLaws.{sane_is, mid_roomy, decided_large, decided
 use Rattle.builder.proofs.table_builder.decide.Goals as goal
 
 pub returns-then-not-is_small : goal.returns-then-not-is_small
-returns-then-not-is_small c = let a = c.args in decided_large a.s a.l a.key.now a.value_len a.s.pending a.s c.is_small.ensures (c.if-not-is_small.true)
-
-pub is_above-requires : goal.is_above-requires
-is_above-requires c = (sane_is c.args.s c.args.l c.requires.sound).len
+returns-then-not-is_small c = let a = c.args in decided_large a.s a.l a.key.now a.value_len c.is_small.ensures (c.if-not-is_small.true)
 
 pub returns-then-not-is_above : goal.returns-then-not-is_above
-returns-then-not-is_above c = let a = c.args in decided_low a.s a.l a.key.now a.value_len a.s.pending a.s c.is_small.ensures (c.if-not-is_small.false) c.is_above.ensures (c.if-not-is_above.true)
+returns-then-not-is_above c = let a = c.args in decided_low a.s a.l a.key.now a.value_len c.is_small.ensures (c.if-not-is_small.false) c.is_above.ensures (c.if-not-is_above.true)
 
-pub is_cut-cut-requires : goal.is_cut-cut-requires
-is_cut-cut-requires c = let x = sane_is c.args.s c.args.l c.requires.sound in
-    small_is c.args.s x.options (sym c.is_small.ensures ∙ c.if-not-is_small.false)
-
-pub cut_before-mid-requires : goal.cut_before-mid-requires
-cut_before-mid-requires c = let x = sane_is c.args.s c.args.l c.requires.sound in
-    (small_is c.args.s x.options (sym c.is_small.ensures ∙ c.if-not-is_small.false), (x.len, c.is_cut-cut.ensures))
+pub invariant_of-before : goal.invariant_of-before
+invariant_of-before c = let x = sane_is c.args.s c.args.l c.requires.sound in
+    record { small = small_is c.args.s x.options (sym c.is_small.ensures ∙ c.if-not-is_small.false); short = x.len }
 
 pub entered-next-requires : goal.entered-next-requires
 entered-next-requires c = let x = sane_is c.args.s c.args.l c.requires.sound in
@@ -27,8 +20,8 @@ entered-next-requires c = let x = sane_is c.args.s c.args.l c.requires.sound in
 
 pub returns-then-not-has_room : goal.returns-then-not-has_room
 returns-then-not-has_room c = let a = c.args in
-    decided_full a.s a.l a.key.now a.value_len a.s.pending a.s c.is_small.ensures (c.if-not-is_small.false) c.is_above.ensures (c.if-not-is_above.false) c.cut_before-mid.ensures c.entered-next.ensures c.has_room.ensures (c.if-not-has_room.true)
+    decided_full a.s a.l a.key.now a.value_len c.is_small.ensures (c.if-not-is_small.false) c.is_above.ensures (c.if-not-is_above.false) c.cut_before-mid.ensures c.entered-next.ensures c.has_room.ensures (c.if-not-has_room.true)
 
 pub returns : goal.returns
 returns c = let b = c.args in
-    decided_ok b.s b.l b.key.now b.value_len b.s.pending b.s c.is_small.ensures (c.if-not-is_small.false) c.is_above.ensures (c.if-not-is_above.false) c.cut_before-mid.ensures c.entered-next.ensures c.has_room.ensures c.is_cut-cut.ensures (c.if-not-has_room.false)
+    decided_ok b.s b.l b.key.now b.value_len c.is_small.ensures (c.if-not-is_small.false) c.is_above.ensures (c.if-not-is_above.false) c.cut_before-mid.ensures c.entered-next.ensures c.has_room.ensures c.is_cut-cut.ensures (c.if-not-has_room.false)

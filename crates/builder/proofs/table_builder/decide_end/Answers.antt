@@ -7,11 +7,11 @@ use Rattle.builder.proofs.EndLaws.{ending_large, ending_full, ending_ok}
 use Rattle.builder.proofs.table_builder.decide_end.Goals as goal
 
 pub returns-then-not-is_small : goal.returns-then-not-is_small
-returns-then-not-is_small c = let a = c.args in ending_large a.s a.l a.s (record { bytes = 0; made = 0; waiting = 0 }) c.is_small.ensures (c.if-not-is_small.true)
+returns-then-not-is_small c = let a = c.args in ending_large a.s a.l c.is_small.ensures (c.if-not-is_small.true)
 
-pub closed_last-last-requires : goal.closed_last-last-requires
-closed_last-last-requires c = let x = sane_is c.args.s c.args.l c.requires in
-    small_is c.args.s x.options (sym c.is_small.ensures ∙ c.if-not-is_small.false)
+pub invariant_of-closed_last : goal.invariant_of-closed_last
+invariant_of-closed_last c = let x = sane_is c.args.s c.args.l c.requires in
+    record { small = small_is c.args.s x.options (sym c.is_small.ensures ∙ c.if-not-is_small.false); short = x.len }
 
 pub last_made-f-requires : goal.last_made-f-requires
 last_made-f-requires c = let x = sane_is c.args.s c.args.l c.requires in
@@ -27,17 +27,17 @@ end_size-size-requires c = let x = sane_is c.args.s c.args.l c.requires in
     let r = last_sizes c.args.s k (last_short c.args.s x.len) d.result f.result d.ensures (rw c.filters_of.ensures at f.ensures) in
     (r.2, r.0, r.1, omega (arith, c.size_estimate.ensures, r.3))
 
-pub returns-then-not-both : goal.returns-then-not-both
-returns-then-not-both c = let x = sane_is c.args.s c.args.l c.requires in
+pub returns-then-not-end_fits : goal.returns-then-not-end_fits
+returns-then-not-end_fits c = let x = sane_is c.args.s c.args.l c.requires in
     let k = small_is c.args.s x.options (sym c.is_small.ensures ∙ c.if-not-is_small.false) in
     let d = c.closed_last-last in
     let f = c.last_made-f in
     let made = rw c.filters_of.ensures at f.ensures in
     let short = last_short c.args.s x.len in
-    ending_full c.args.s c.args.l c.args.s (record { bytes = 0; made = 0; waiting = 0 }) k c.is_small.ensures (c.if-not-is_small.false) _ _ _
+    ending_full c.args.s c.args.l k c.is_small.ensures (c.if-not-is_small.false) _ _ _
     (λ w. c.end_size-size.ensures ∙ finished_is c.args.s k w short d.result f.result d.ensures made (index_exact c.args.s k short d.result d.ensures c.size_estimate.ensures))
     d.ensures made
-    (c.both-2.ensures ∙ rw (c.both.ensures, c.both-runs.ensures)) (c.if-not-both.true)
+    c.end_fits.ensures (c.if-not-end_fits.true)
 
 pub returns : goal.returns
 returns c = let x = sane_is c.args.s c.args.l c.requires in
@@ -46,7 +46,7 @@ returns c = let x = sane_is c.args.s c.args.l c.requires in
     let f = c.last_made-f in
     let made = rw c.filters_of.ensures at f.ensures in
     let short = last_short c.args.s x.len in
-    ending_ok c.args.s c.args.l c.args.s (record { bytes = 0; made = 0; waiting = 0 }) k c.is_small.ensures (c.if-not-is_small.false) _ _ _
+    ending_ok c.args.s c.args.l k c.is_small.ensures (c.if-not-is_small.false) _ _ _
     (λ w. c.end_size-size.ensures ∙ finished_is c.args.s k w short d.result f.result d.ensures made (index_exact c.args.s k short d.result d.ensures c.size_estimate.ensures))
     d.ensures made
-    (c.both-2.ensures ∙ rw (c.both.ensures, c.both-runs.ensures)) (c.if-not-both.false)
+    c.end_fits.ensures (c.if-not-end_fits.false)

@@ -3,4 +3,4 @@ use Rattle.builder.proofs.SizeLaws.{entered_is}
 use Rattle.builder.proofs.table_builder.entered.Goals as goal
 
 pub returns : goal.returns
-returns c = entered_is c.args.s c.args.key.now c.args.value_len c.requires c.count-counted.ensures
+returns c = entered_is c.args.s c.args.key.now c.args.value_len c.requires c.count.ensures

@@ -9,11 +9,11 @@ returns-then-not-is_sane c = let a = c.args in λ w. room_insane a.s a.l c.is_sa
 pub returns-then-not-is_small : goal.returns-then-not-is_small
 returns-then-not-is_small c = let a = c.args in λ w. room_large a.s a.l c.is_sane.ensures (c.if-not-is_sane.false) c.is_small.ensures (c.if-not-is_small.true)
 
-pub finished_size-requires : goal.finished_size-requires
-finished_size-requires c = let a = c.args in
+pub invariant_of-finished_size : goal.invariant_of-finished_size
+invariant_of-finished_size c = let a = c.args in
     let e = c.is_sane.ensures in
     let f = c.if-not-is_sane.false in
-    (sane_small a.s a.l e f c.is_small.ensures (c.if-not-is_small.false), (sane_is a.s a.l (sym e ∙ f)).len)
+    record { small = sane_small a.s a.l e f c.is_small.ensures (c.if-not-is_small.false); short = (sane_is a.s a.l (sym e ∙ f)).len }
 
 pub returns : goal.returns
 returns c = let a = c.args in

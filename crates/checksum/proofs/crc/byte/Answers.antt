@@ -1,5 +1,6 @@
 -- `checksum::crc::byte` meets its contract. The invariant: the bits to go, from the state, give the byte's.
-use Rattle.std.proofs.Common.{◌≡◌, ℕ, suc, ◌+◌, ◌-◌, ◌<◌, ◌≤◌, sym, refl, ap, ◌∙◌, arith, rules}
+use Rattle.std.proofs.Common.{◌≡◌, ℕ, suc, ◌+◌, ◌-◌, ◌<◌, ◌≤◌, sym, ap, ◌∙◌, arith, rules}
+use lib.Bits.{bit_xor}
 use Rattle.checksum.specs.Checksum.{crc_bit, crc_bits, crc_byte}
 use Rattle.checksum.proofs.crc.byte.Goals as goal
 
@@ -17,11 +18,11 @@ stop k x h =
 
 pub loop-k-init : goal.loop-k-init
 unfolding crc_byte
-loop-k-init c = (search rules, refl)
+loop-k-init c = ap (λ (b : ℕ). crc_bits 8 (bit_xor c.args.c b)) c.from.ensures
 
 pub loop-k-preserved : goal.loop-k-preserved
 loop-k-preserved c = let l = c.loop-k in
-    (search rules, ap (crc_bits (8 - (l.k + 1))) c.bit-x.ensures ∙ step l.k l.x (search rules) ∙ l.invariant.1)
+    ap (crc_bits (8 - (l._k + 1))) c.bit-x.ensures ∙ step l._k l.x (search rules) ∙ l.invariant
 
 pub returns : goal.returns
-returns c = sym (stop c.loop-k.k c.loop-k.x (search rules)) ∙ c.loop-k.invariant.1
+returns c = sym (stop c.loop-k._k c.loop-k.x (search rules)) ∙ c.loop-k.invariant

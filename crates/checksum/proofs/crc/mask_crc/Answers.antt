@@ -11,4 +11,4 @@ rotated x h =
 
 pub returns : goal.returns
 unfolding crc_mask
-returns c = c.wrapping_add_u32.ensures.value ∙ ap (λ (n : ℕ). (n + 0xa282_ead8) % 2 ^ 32) (rotated c.args.crc c.ranges.crc.fits)
+returns c = ap (λ (n : ℕ). (n + 0xa282_ead8) % 2 ^ 32) (c.rotate_right.ensures ∙ rotated c.args.crc c.ranges.crc.fits)

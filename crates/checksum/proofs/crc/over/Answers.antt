@@ -11,14 +11,14 @@ stop : (s : List ℕ) (i x : ℕ) → length s ≤ i → crc_over x (drop i s) �
 unfolding crc_over
 stop s i x h = rw (drop_of_length-le s h)
 
-pub loop-i-init : goal.loop-i-init
-loop-i-init c = (search rules, refl)
+pub loop-b-init : goal.loop-b-init
+loop-b-init c = refl
 
-pub loop-i-preserved : goal.loop-i-preserved
-loop-i-preserved c = let l = c.loop-i in
+pub loop-b-preserved : goal.loop-b-preserved
+loop-b-preserved c = let l = c.loop-b in
     let s = c.args.s.now in
-    (search rules, ap (λ (y : ℕ). crc_over y (drop (l.i + 1) s)) c.byte-x.ensures ∙ step s l.i l.x (search rules) ∙ l.invariant.1)
+    ap (λ (y : ℕ). crc_over y (drop (l.b-index + 1) s)) c.byte-x.ensures ∙ step s l.b-index l.x (search rules) ∙ l.invariant
 
 pub returns : goal.returns
-returns c = let l = c.loop-i in
-    sym (stop c.args.s.now l.i l.x (search rules)) ∙ l.invariant.1
+returns c = let l = c.loop-b in
+    sym (stop c.args.s.now l.b-index l.x (search rules)) ∙ l.invariant

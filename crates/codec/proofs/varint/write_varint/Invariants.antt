@@ -6,8 +6,5 @@ use lib.Seq.{sets}
 use Rattle.codec.specs.Varint.{varint_bytes_f, varint_bytes}
 use Rattle.codec.proofs.varint.write_varint.Given as goal
 
-abbrev pub invariant-loop-left : goal.invariant-loop-left
-invariant-loop-left l = (k : ℕ) × (l.left < 128 ^ suc k) × (l.i + length (varint_bytes_f (suc k) l.left) ≡ l.at + l.n) × (sets l.out l.i (varint_bytes_f (suc k) l.left) ≡ sets l.initial.out l.at (varint_bytes l.x)) × (length l.out ≡ length l.initial.out)
-
-abbrev pub decreases-loop-left : goal.decreases-loop-left
-decreases-loop-left l = l.left
+abbrev pub invariant-loop-i : goal.invariant-loop-i
+invariant-loop-i l = (k : ℕ) × (l.left < 128 ^ suc k) × (l.i + length (varint_bytes_f (suc k) l.left) ≡ l.end) × (sets l.out l.i (varint_bytes_f (suc k) l.left) ≡ sets l.initial.out l.at (varint_bytes l.x)) × (length l.out ≡ length l.initial.out)

@@ -1,26 +1,21 @@
 -- `full_check::check::filtered` meets its contract.
 use mathlib.Core.Path.{sym, ap, ◌∙◌}
-use native.Mathlib.Omega.{arith}
+use Rattle.block_reader.proofs.ExitLaws.{handed_on}
 use Rattle.full_check.specs.Answers.{verdict_of}
-use Rattle.checksum.proofs.TrailerLaws.{stands_within}
 use Rattle.full_check.proofs.DataLaws.{refused}
-use Rattle.full_check.proofs.CheckLaws.{filter_out, filter_unsealed, filter_malformed, filter_stands}
+use Rattle.full_check.proofs.CheckLaws.{filter_outside, filter_malformed, filter_stands}
 use Rattle.full_check.proofs.check.filtered.Goals as goal
 
-pub returns-else-placed : goal.returns-else-placed
-returns-else-placed c = λ es read. refused (filter_out _ _ _ _ (sym c.placed.ensures ∙ c.if-placed.false))
+pub returns-in_err-filter : goal.returns-in_err-filter
+returns-in_err-filter c = λ es read.
+    rw (handed_on _ c.from_residual.ensures.1) (refused (filter_outside _ _ _ c.in_err-filter.ensures))
 
-pub returns-else-trailer_stands : goal.returns-else-trailer_stands
-returns-else-trailer_stands c = λ es read. refused (filter_unsealed _ _ _ _ (sym c.placed.ensures ∙ c.if-placed.true) (sym c.trailer_stands.ensures ∙ c.if-trailer_stands.false))
-
-pub overflow_add-end : goal.overflow_add-end
-overflow_add-end c = omega (arith, stands_within _ _ _ (sym c.trailer_stands.ensures ∙ c.if-trailer_stands.true))
-
-pub slice_bounds-filter-end : goal.slice_bounds-filter-end
-slice_bounds-filter-end c = omega (arith, stands_within _ _ _ (sym c.trailer_stands.ensures ∙ c.if-trailer_stands.true))
-
-pub returns-else-is_formed : goal.returns-else-is_formed
-returns-else-is_formed c = λ es read. refused (filter_malformed _ _ _ _ (sym c.placed.ensures ∙ c.if-placed.true) (sym c.trailer_stands.ensures ∙ c.if-trailer_stands.true) (sym c.is_formed.ensures ∙ c.if-is_formed.false))
+pub returns-then-not-is_formed : goal.returns-then-not-is_formed
+returns-then-not-is_formed c = λ es read.
+    let s = c.in_ok-filter.ensures in
+    refused (filter_malformed _ _ _ s.1 s.2 (sym c.is_formed.ensures ∙ c.if-not-is_formed.true))
 
 pub returns : goal.returns
-returns c = λ es read. c.blocks_in.ensures es read ∙ ap verdict_of (sym (filter_stands _ _ _ _ (sym c.placed.ensures ∙ c.if-placed.true) (sym c.trailer_stands.ensures ∙ c.if-trailer_stands.true) (sym c.is_formed.ensures ∙ c.if-is_formed.true)))
+returns c = λ es read.
+    let s = c.in_ok-filter.ensures in
+    c.blocks_in.ensures es read ∙ ap verdict_of (sym (filter_stands _ _ _ s.1 s.2 (sym c.is_formed.ensures ∙ c.if-not-is_formed.false)))

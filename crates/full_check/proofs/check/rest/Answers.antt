@@ -2,7 +2,7 @@
 use mathlib.Core.Path.{sym, ap, ◌∙◌}
 use mathlib.Core.Option.{Option}
 use Rattle.codec.specs.Varint.{Handle}
-use Rattle.codec.proofs.VarintCode.{one_said}
+use Rattle.codec.proofs.GivenLaws.{said}
 use Rattle.blocks.specs.Block.{pairs_of}
 use Rattle.full_check.specs.Answers.{verdict_of}
 use Rattle.full_check.specs.Steps.{with_filter}
@@ -11,8 +11,8 @@ use Rattle.full_check.proofs.check.rest.Goals as goal
 
 pub returns-in-None : goal.returns-in-None
 returns-in-None c = let t = c.args.table.now in
-    λ ms es meta read. c.blocks_in.ensures es read ∙ ap verdict_of (sym (ap (λ (o : Option Handle). with_filter t o (pairs_of es)) (one_said _ (sym (c.bloom_handle.ensures.answer ms meta) ∙ c.in-None.is)) ∙ no_filter t (pairs_of es)))
+    λ ms es meta read. c.blocks_in.ensures es read ∙ ap verdict_of (sym (ap (λ (o : Option Handle). with_filter t o (pairs_of es)) (said _ (sym (c.bloom_handle.ensures.answer ms meta) ∙ c.in-None.is)) ∙ no_filter t (pairs_of es)))
 
-pub returns-in-Handle : goal.returns-in-Handle
-returns-in-Handle c = let t = c.args.table.now in
-    λ ms es meta read. c.filtered.ensures es read ∙ ap verdict_of (sym (ap (λ (o : Option Handle). with_filter t o (pairs_of es)) (one_said _ (sym (c.bloom_handle.ensures.answer ms meta) ∙ c.in-Handle.is))))
+pub returns-in-Some : goal.returns-in-Some
+returns-in-Some c = let t = c.args.table.now in
+    λ ms es meta read. c.filtered.ensures es read ∙ ap verdict_of (sym (ap (λ (o : Option Handle). with_filter t o (pairs_of es)) (said _ (sym (c.bloom_handle.ensures.answer ms meta) ∙ c.in-Some.is))))

@@ -1,22 +1,20 @@
 -- `full_check::check::sorted` meets its contract.
-use mathlib.Core.Path.{sym, subst, ◌∙◌}
-use mathlib.Core.List.{List}
-use native.Mathlib.Omega.{arith}
-use Rattle.blocks.specs.Block.{Entry}
-use Rattle.table.specs.Checked.{Checked}
-use Rattle.full_check.specs.Steps.{Judged}
-use Rattle.checksum.proofs.TrailerLaws.{stands_within}
+use mathlib.Core.Path.{◌∙◌}
+use Rattle.block_reader.proofs.ExitLaws.{handed_on}
 use Rattle.full_check.proofs.BlockLaws.{sorted_unsealed, sorted_sealed}
 use Rattle.full_check.proofs.check.sorted.Goals as goal
 
-pub returns-else-trailer_stands : goal.returns-else-trailer_stands
-returns-else-trailer_stands c = sorted_unsealed _ _ _ _ (sym c.trailer_stands.ensures ∙ c.if-trailer_stands.false)
+pub returns-in_err-s : goal.returns-in_err-s
+returns-in_err-s c =
+    rw (handed_on _ c.from_residual.ensures.1) (sorted_unsealed _ _ _ c.in_err-s.ensures)
 
-pub overflow_add-end : goal.overflow_add-end
-overflow_add-end c = omega (arith, stands_within _ _ _ (sym c.trailer_stands.ensures ∙ c.if-trailer_stands.true))
-
-pub slice_bounds-sorted_in-end : goal.slice_bounds-sorted_in-end
-slice_bounds-sorted_in-end c = omega (arith, stands_within _ _ _ (sym c.trailer_stands.ensures ∙ c.if-trailer_stands.true))
+pub returns-in_err-sorted_in : goal.returns-in_err-sorted_in
+returns-in_err-sorted_in c =
+    let s = c.in_ok-s.ensures in
+    rw (handed_on _ c.from_residual-in_err-sorted_in.ensures.1) (sorted_sealed _ _ _ s.1 s.2 ∙ c.in_err-sorted_in.ensures)
 
 pub returns : goal.returns
-returns c = subst (λ (q : Checked (List Entry)). Judged q c.sorted_in.result) (sym (sorted_sealed _ _ _ _ (sym c.trailer_stands.ensures ∙ c.if-trailer_stands.true))) c.sorted_in.ensures
+returns c =
+    let s = c.in_ok-s.ensures in
+    let j = c.in_ok-sorted_in.ensures in
+    (j.0, sorted_sealed _ _ _ s.1 s.2 ∙ j.1, j.2)

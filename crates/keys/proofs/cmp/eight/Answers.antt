@@ -1,4 +1,4 @@
--- `keys::cmp::eight` meets its contract: the eight bytes at the place, joined by fours, are the number there.
+-- `keys::cmp::eight` meets its contract: the eight bytes at the place are the number there.
 use native.Mathlib.Nat.{add-zero}
 use native.Mathlib.Omega.{arith}
 use Rattle.keys.proofs.CompareLaws.{big_at}
@@ -6,4 +6,4 @@ use Rattle.keys.proofs.cmp.eight.Goals as goal
 
 pub returns : goal.returns
 returns c = let a = c.args in
-    omega (arith, c.four-high.ensures, c.four-low.ensures, rw (add-zero a.i) at (big_at 8 a.s.now a.i (omega arith)))
+    omega (arith, c.from_be_bytes.ensures, rw (add-zero a.i) at (big_at 8 a.s.now a.i (omega arith)))

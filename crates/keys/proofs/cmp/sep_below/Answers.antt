@@ -12,7 +12,7 @@ raised_below-requires c = fits_raised c.requires c.in-Raised.is
 pub returns-in-Whole : goal.returns-in-Whole
 unfolding bytes_below sep_bytes
 returns-in-Whole c = let a = c.args in
-    less_told _ c.is_less.ensures c.cmp.ensures ∙ sym (ap (λ s. bytes_below (sep_bytes a.a.now s) a.b.now) c.in-Whole.is)
+    less_told _ c.is_lt.ensures c.cmp.ensures ∙ sym (ap (λ s. bytes_below (sep_bytes a.a.now s) a.b.now) c.in-Whole.is)
 
 pub returns-in-Longer : goal.returns-in-Longer
 unfolding sep_bytes

@@ -5,4 +5,4 @@ use Rattle.keys.proofs.key_types.key_below.Goals as goal
 
 pub returns : goal.returns
 unfolding below
-returns c = less_told _ c.is_less.ensures c.cmp_internal_key.ensures
+returns c = less_told _ c.is_lt.ensures c.cmp_internal_key.ensures

@@ -10,5 +10,5 @@ returns c = let s = c.args in
     record {
       answer = _;
       shown = c.number_if.ensures;
-      is = c.is_formed.ensures ∙ ap (λ (k : Kind). is_formed (kind_of k) s.block.now) c.kind_in-k.ensures;
+      is = c.is_formed.ensures ∙ ap (λ (k : Kind). is_formed (kind_of k) s.block.now) c.kind_in.ensures;
     }

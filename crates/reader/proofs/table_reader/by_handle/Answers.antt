@@ -1,13 +1,14 @@
 -- `reader::table_reader::by_handle` meets its contract.
 use mathlib.Core.Path.{sym, ◌∙◌}
-use Rattle.reader.proofs.LocateLaws.{not_located, located}
+use Rattle.block_reader.proofs.ExitLaws.{none_exit}
+use Rattle.reader.proofs.LocateLaws.{not_located, located, located_out}
 use Rattle.reader.proofs.table_reader.by_handle.Goals as goal
 
-pub returns-in-None : goal.returns-in-None
-returns-in-None c = not_located _ _ _ (sym c.one_handle.ensures ∙ c.in-None.is)
+pub returns-in_err-handle : goal.returns-in_err-handle
+returns-in_err-handle c = none_exit c.one_handle.result c.from_residual.ensures.1 c.in_err-handle.ensures.value ∙ not_located _ _ _ (sym c.one_handle.ensures ∙ c.in_err-handle.ensures.ok_part)
 
-pub returns-then-placed : goal.returns-then-placed
-returns-then-placed c = located _ _ _ (sym c.one_handle.ensures ∙ c.in-Handle.is) (sym c.placed.ensures ∙ c.if-placed.true)
+pub returns-then-not-placed : goal.returns-then-not-placed
+returns-then-not-placed c = located_out _ _ _ (sym c.one_handle.ensures ∙ c.in_ok-handle.ensures.ok_part) (sym c.placed.ensures ∙ c.if-not-placed.true)
 
-pub returns-else-placed : goal.returns-else-placed
-returns-else-placed c = located _ _ _ (sym c.one_handle.ensures ∙ c.in-Handle.is) (sym c.placed.ensures ∙ c.if-placed.false)
+pub returns : goal.returns
+returns c = located _ _ _ (sym c.one_handle.ensures ∙ c.in_ok-handle.ensures.ok_part) (sym c.placed.ensures ∙ c.if-not-placed.false)

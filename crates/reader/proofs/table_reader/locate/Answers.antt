@@ -1,34 +1,23 @@
 -- `reader::table_reader::locate` meets its contract.
-use Prim.Native.Nat.{◌+◌, ◌≤◌}
-use mathlib.Core.Path.{subst, ◌∙◌}
-use native.Mathlib.Omega.{arith}
-use lib.ListN.{length}
+use mathlib.Core.Path.{◌≡◌, sym, ◌∙◌, ap}
+use borrow.Author.Rules.{rules}
+use Rattle.std.specs.Prelude.{Ok, Some}
+use Rattle.block_reader.proofs.ExitLaws.{handed_on}
 use Rattle.codec.proofs.BytesLaws.{part_between}
-use Rattle.reader.specs.Parts.{Inside, located_of}
+use Rattle.reader.specs.Parts.{one_located, located_of}
 use Rattle.reader.proofs.table_reader.locate.Goals as goal
-use Rattle.reader.proofs.table_reader.locate.Goals.{In-Entry}
+use Rattle.reader.proofs.table_reader.locate.Goals.{In-Ok-Some}
 
-value_in : (c : In-Entry) → c.in-Entry.value_at + c.in-Entry.value_len ≤ length c.args.index.now
-value_in c = subst (Inside (length c.args.index.now)) c.in-Entry.is c.requires
+-- an entry was found
+found_is : (c : In-Ok-Some) → c.args.found ≡ Ok (Some c.in-Ok-Some.entry)
+found_is c = search rules
 
-pub overflow_add-to : goal.overflow_add-to
-overflow_add-to c = omega (arith, value_in c)
-
-pub slice_bounds-by_handle-end : goal.slice_bounds-by_handle-end
-slice_bounds-by_handle-end c = omega (arith, value_in c)
-
-pub returns-in-Bad : goal.returns-in-Bad
+pub returns-in_err-block-in-Ok-Some : goal.returns-in_err-block-in-Ok-Some
 unfolding located_of
-returns-in-Bad c = rw c.in-Bad.is
+returns-in_err-block-in-Ok-Some c =
+    rw (handed_on _ c.from_residual.ensures.1) (ap one_located (sym c.in_err-block-in-Ok-Some.was ∙ c.by_handle.ensures) ∙ rw (found_is (goal.at.returns-in_err-block-in-Ok-Some c).In-Ok-Some, part_between _ _ _))
 
-pub returns-in-None : goal.returns-in-None
+pub returns-in_ok-block-in-Ok-Some : goal.returns-in_ok-block-in-Ok-Some
 unfolding located_of
-returns-in-None c = rw c.in-None.is
-
-pub returns-in-NoPlace : goal.returns-in-NoPlace
-unfolding located_of
-returns-in-NoPlace c = rw c.in-NoPlace.is
-
-pub returns-in-Entry : goal.returns-in-Entry
-unfolding located_of
-returns-in-Entry c = c.by_handle.ensures ∙ rw (c.in-Entry.is, part_between _ _ _)
+returns-in_ok-block-in-Ok-Some c =
+    ap one_located (sym c.in_ok-block-in-Ok-Some.was ∙ c.by_handle.ensures) ∙ rw (found_is (goal.at.returns-in_ok-block-in-Ok-Some c).In-Ok-Some, part_between _ _ _)

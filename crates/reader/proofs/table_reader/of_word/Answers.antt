@@ -1,31 +1,30 @@
 -- `reader::table_reader::of_word` meets its contract.
-use Prim.Native.Nat.{ℕ}
 use mathlib.Core.Path.{◌≡◌, sym, ◌∙◌, ap}
 use mathlib.Core.Bool.{Bool}
 use mathlib.Core.List.{List}
+use Prim.Native.Nat.{ℕ}
 use lib.ListN.{take}
+use Rattle.std.specs.Prelude.{Ok}
+use Rattle.block_reader.proofs.ExitLaws.{handed_on}
 use Rattle.codec.specs.Bytes.{same_bytes}
 use Rattle.keys.specs.Order.{user_of}
-use Rattle.reader.proofs.AnswerLaws.{key_long}
 use Rattle.reader.proofs.LookLaws.{word_refused, word_none, word_is}
 use Rattle.reader.proofs.table_reader.of_word.Goals as goal
 use Rattle.reader.proofs.table_reader.of_word.Goals.{After-same}
 
 -- the test of the user key
-user : (c : After-same) {b : Bool} → c.same.result ≡ b → b ≡ same_bytes (user_of (take c.in-Entry.entry.key_len c.args.buf.now)) c.args.word.now
+user : (c : After-same) {b : Bool} → c.same.result ≡ b → b ≡ same_bytes (user_of (take c.in-Some.found.key_len c.args.buf.now)) c.args.word.now
 user c e = sym e ∙ c.same.ensures ∙ ap (λ (k : List ℕ). same_bytes k c.args.word.now) c.user_key.ensures
 
-pub slice_bounds-user_key-end : goal.slice_bounds-user_key-end
-slice_bounds-user_key-end c = key_long _ c.in-Entry.is c.requires.1 c.requires.0
+pub returns-in_err-found : goal.returns-in_err-found
+returns-in_err-found c = λ a shown holds.
+    rw (handed_on _ c.from_residual.ensures.1) (word_refused _ a shown c.in_err-found.was)
 
-pub returns-in-Refused : goal.returns-in-Refused
-returns-in-Refused c = λ a shown holds. word_refused _ a shown c.in-Refused.is
+pub returns-in_default : goal.returns-in_default
+returns-in_default c = λ a shown holds. word_none _ a shown (c.in_ok-found.was ∙ ap Ok c.in_default.is)
 
-pub returns-in-None : goal.returns-in-None
-returns-in-None c = λ a shown holds. word_none _ a shown c.in-None.is
+pub returns-then-not-same : goal.returns-then-not-same
+returns-then-not-same c = λ a shown holds. word_is _ a shown _ (c.in_ok-found.was ∙ ap Ok c.in-Some.is) (user (goal.at.returns-then-not-same c).After-same c.if-not-same.true) holds
 
-pub returns-then-same : goal.returns-then-same
-returns-then-same c = λ a shown holds. word_is _ a shown _ c.in-Entry.is (user (goal.at.returns-then-same c).After-same c.if-same.true) holds
-
-pub returns-else-same : goal.returns-else-same
-returns-else-same c = λ a shown holds. word_is _ a shown _ c.in-Entry.is (user (goal.at.returns-else-same c).After-same c.if-same.false) holds
+pub returns : goal.returns
+returns c = λ a shown holds. word_is _ a shown _ (c.in_ok-found.was ∙ ap Ok c.in-Some.is) (user (goal.at.returns c).After-same c.if-not-same.false) holds

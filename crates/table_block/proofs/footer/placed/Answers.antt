@@ -1,16 +1,15 @@
 -- `table_block::footer::placed` meets its contract, without a sum that could overflow.
+use mathlib.Core.Path.{◌∙◌}
 use native.Mathlib.Omega.{arith}
-use Rattle.table_block.proofs.FooterLaws.{not_before, is_before}
+use borrow.Author.Tests.{lt-leb}
+use Rattle.table_block.proofs.FooterLaws.{ends_short, ends_over, ends_within}
 use Rattle.table_block.proofs.footer.placed.Goals as goal
 
-pub returns-then-len-lt48 : goal.returns-then-len-lt48
-returns-then-len-lt48 c = not_before _ _ _ (omega arith)
+pub returns-in_default : goal.returns-in_default
+returns-in_default c = ends_short _ _ _ (omega (arith, c.in_default.ensures))
 
-pub returns-then-room-offset : goal.returns-then-room-offset
-returns-then-room-offset c = not_before _ _ _ (omega arith)
+pub returns-then-handle-room : goal.returns-then-handle-room
+returns-then-handle-room c = ends_within _ _ _ c.in-Some.room (omega (arith, c.in-Some.ensures)) c.if-handle-room.true
 
-pub returns-then-room-offset-2 : goal.returns-then-room-offset-2
-returns-then-room-offset-2 c = not_before _ _ _ (omega arith)
-
-pub returns : goal.returns
-returns c = is_before _ _ _ (omega arith) (omega arith) (omega arith)
+pub returns-else-handle-room : goal.returns-else-handle-room
+returns-else-handle-room c = lt-leb _ _ c.if-handle-room.false ∙ ends_over _ _ _ c.in-Some.room (omega (arith, c.in-Some.ensures)) c.if-handle-room.false

@@ -9,6 +9,7 @@ pub returns : goal.returns
 returns c = let a = c.args in
     record {
       added = c.add.result;
+      after = c.add.new.self;
       entry = c.add.ensures;
       hash = c.push_hash.ensures ∙ ap (λ (x : ℕ). put a.hashes.now a.waiting (x ∷ [])) c.bloom_hash.ensures;
     }

@@ -1,28 +1,38 @@
 -- `builder::table_builder::Builder::finish` meets its contract.
-use mathlib.Core.Path.{refl}
-use native.Mathlib.Omega.{arith}
+use mathlib.Core.Path.{◌≡◌, refl, sym, ◌∙◌}
+use mathlib.Core.Bool.{true}
+use Rattle.std.specs.Prelude.{Result}
+use Rattle.std.proofs.lemmas.Result.{err_from_is_err_and}
+use Rattle.table_block.specs.declared.refusal.Refusal as Why
 use Rattle.table.specs.Runs.{Runs}
-use Rattle.builder.specs.State.{seven, lengths_of}
+use Rattle.builder.specs.declared.table_builder.Builder.{Builder}
+use Rattle.builder.specs.declared.table_builder.Lengths.{Lengths}
+use Rattle.builder.specs.State.{lent, lengths_of}
+use Rattle.builder.specs.Steps.{unless, early_of}
 use Rattle.builder.specs.Answers.{over_state}
+use Rattle.builder.proofs.AddLaws.{unless_ok}
 use Rattle.builder.proofs.LastLaws.{finish_refused, finish_is_sane, finish_full, finish_done}
 use Rattle.builder.proofs.table_builder.Builder.finish.Goals as goal
-use Rattle.builder.proofs.table_builder.Builder.finish.Goals.{Start}
+use Rattle.builder.proofs.table_builder.Builder.finish.Goals.{In_ok-early}
 
-abbrev runs : (c : Start) → Runs
-runs c = let a = c.args in (seven a.out.now a.index.now a.filters.now a.restarts.now a.index_restarts.now a.offsets.now a.hashes.now)
+-- what `early` said, of the runs' lengths
+early_said : (s : Builder) (r : Runs) {l : Lengths} {x : Result (Unit {0}) Why.Refusal} → l ≡ lengths_of r → x ≡ unless (early_of s l true) → unless (early_of s (lengths_of r) true) ≡ x
+early_said s r e q = rw e at (sym q)
 
-pub returns-then-number-ne0 : goal.returns-then-number-ne0
-unfolding lengths_of
-returns-then-number-ne0 c = finish_refused c.args.self (runs (goal.at.returns-then-number-ne0 c).Start) c.early-number.ensures c.if-number-ne0.true
+early_is : (c : In_ok-early) → early_of c.args.self.now (lengths_of (lent c.args.runs)) true ≡ 0
+early_is c = unless_ok _ (early_said c.args.self.now (lent c.args.runs) c.lengths-lengths.ensures c.early.ensures ∙ c.in_ok-early.was)
 
-pub decide_end-p-requires : goal.decide_end-p-requires
-unfolding lengths_of
-decide_end-p-requires c = finish_is_sane c.args.self (runs (goal.at.decide_end-p-requires c).Start) c.early-number.ensures c.if-number-ne0.false
+pub returns-in_err-early : goal.returns-in_err-early
+returns-in_err-early c = let q = err_from_is_err_and c.from_residual.result c.from_residual.ensures.1 in
+    rw (q.1, q.2) (finish_refused c.args.self.now (lent c.args.runs) (early_said c.args.self.now (lent c.args.runs) c.lengths-lengths.ensures c.early.ensures ∙ c.in_err-early.was))
 
-pub returns-then-answer-ne0 : goal.returns-then-answer-ne0
-unfolding lengths_of
-returns-then-answer-ne0 c = finish_full c.args.self (runs (goal.at.returns-then-answer-ne0 c).Start) c.early-number.ensures c.if-number-ne0.false c.decide_end-p.ensures c.if-answer-ne0.true
+pub decide_end-requires : goal.decide_end-requires
+decide_end-requires c = rw c.lengths-lengths.ensures (finish_is_sane c.args.self.now (lent c.args.runs) (early_is (goal.at.decide_end-requires c).In_ok-early))
+
+pub returns-in_err-p : goal.returns-in_err-p
+returns-in_err-p c = let q = err_from_is_err_and c.from_residual-in_err-p.result c.from_residual-in_err-p.ensures.1 in
+    rw (q.1, q.2) (finish_full c.args.self.now (lent c.args.runs) (early_is (goal.at.returns-in_err-p c).In_ok-early) (rw c.lengths-lengths.ensures at c.in_err-p.ensures))
 
 pub returns : goal.returns
-unfolding lengths_of over_state
-returns c = finish_done c.args.self (runs (goal.at.returns c).Start) c.early-number.ensures c.if-number-ne0.false c.decide_end-p.ensures c.if-answer-ne0.false refl c.close_out.ensures c.close_index.ensures c.more_filters.ensures c.more_filters-2.ensures c.write_end.ensures (omega (arith, c.filters-2-1.given, c.filters-1.given), (omega (arith, c.offsets-2-1.given, c.offsets-1.given), omega (arith, c.index-1.given))) refl
+unfolding over_state
+returns c = finish_done c.args.self.now (lent c.args.runs) (early_is (goal.at.returns c).In_ok-early) (rw c.lengths-lengths.ensures at c.in_ok-p.ensures) refl c.close_out.ensures (rw c.front.ensures at c.close_index.ensures) (rw c.front-2.ensures at c.more_filters.ensures) (rw c.front-3.ensures at c.more_filters-2.ensures) (rw (c.front-4.ensures, c.front-5.ensures) at c.write_end.ensures) (c.more_filters-2.auto.filters ∙ c.more_filters.auto.filters, (c.more_filters-2.auto.offsets ∙ c.more_filters.auto.offsets, c.close_index.auto.index)) refl

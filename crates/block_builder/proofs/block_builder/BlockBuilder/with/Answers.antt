@@ -1,7 +1,0 @@
--- `block_builder::block_builder::BlockBuilder::with` meets its contract.
-use Rattle.block_builder.specs.Builder.{builder_with}
-use Rattle.block_builder.proofs.block_builder.BlockBuilder.with.Goals as goal
-
-pub returns : goal.returns
-unfolding builder_with
-returns c = rw c.put_bytes.ensures.left

@@ -1,0 +1,21 @@
+-- `builder::table_builder::SmallBuilder::cut_before` meets its contract.
+use mathlib.Core.Path.{sym, ap, ◌∙◌}
+use native.Mathlib.Omega.{arith}
+use lib.ListN.{length-take}
+use lib.Seq.{length-take-le}
+use Rattle.builder.specs.Steps.{last_of, sep_of, closed_state}
+use Rattle.builder.proofs.DecideLaws.{mid_is}
+use Rattle.builder.proofs.table_builder.SmallBuilder.cut_before.Goals as goal
+
+pub returns-then-not-cut : goal.returns-then-not-cut
+returns-then-not-cut c = mid_is c.args.self.now.state c.args.key.now (sym (c.if-not-cut.true) ∙ c.requires)
+
+pub slice_bounds-closed-end : goal.slice_bounds-closed-end
+slice_bounds-closed-end c = let p = c.put_separator-n in sym (length-take-le p.result _ (omega (arith, p.ensures.0, p.ensures.1.0)))
+
+pub closed-requires : goal.closed-requires
+closed-requires c = simp length-take (omega (arith, c.put_separator-n.ensures.0))
+
+pub returns : goal.returns
+unfolding last_of sep_of
+returns c = c.closed.ensures ∙ ap (closed_state c.args.self.now.state) (rw c.last.ensures.said at c.put_separator-n.ensures.1.1) ∙ mid_is c.args.self.now.state c.args.key.now (sym (c.if-not-cut.false) ∙ c.requires)
