@@ -16,10 +16,7 @@ fn number(s: &[u8], at: usize) -> usize
     requires { at + 4 ≤ length s.now }
     ensures { result ≡ number_of (part s.now at 4) }
 {
-    match u32::read(s, at) {
-        Some(x) => x as usize,
-        None => 0,
-    }
+    u32::from_le_bytes([s[at], s[at + 1], s[at + 2], s[at + 3]]) as usize
 }
 
 // Where the starts of the filters begin, how many there are, and the base log.
