@@ -32,6 +32,11 @@ impl Refusal {
 }
 
 impl fmt::Display for Refusal {
+    ghost use Rattle.std.specs.Prelude.{Some};
+    ghost use Rattle.table_block.specs.Refusals.{sentence};
+
+    ghost output = { λ why. Some (sentence why) };
+
     fn fmt<W: fmt::Write>(&self, f: &mut fmt::Formatter<W>) -> fmt::Result {
         f.write_str(match self {
             Refusal::Options => "an option is outside its limits",
