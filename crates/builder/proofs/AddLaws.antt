@@ -26,10 +26,10 @@ use Rattle.builder.specs.declared.table_builder.Lengths.{Lengths}
 use Rattle.builder.specs.declared.table_builder.Builder.{Builder}
 use Rattle.builder.specs.declared.table_builder.Plan.{Plan}
 use Rattle.builder.specs.State.{lengths_of, seven, sane, Stands}
-use Rattle.builder.specs.Steps.{ends_at, Whole, Ready, early_of, mid_of, next_of, entered_state, decide_of, DecidedIs, cut_of, sep_of, unless}
+use Rattle.builder.specs.Steps.{ends_at, Whole, Ready, early_of, mid_of, next_of, entered_state, decide_of, DecidedIs, open_after, cut_of, sep_of, unless}
 use Rattle.builder.specs.Answers.{answer_of, Added, Later, Traced, AddedIs}
 use Rattle.builder.proofs.CloseLaws.{Counted, ClosedRuns, closed_kept, more_until, ends_closed, index_key, index_key_closed, closed_all}
-use Rattle.builder.proofs.DecideLaws.{early_sane, mid_is}
+use Rattle.builder.proofs.DecideLaws.{early_sane, mid_is, mid_open}
 use Rattle.builder.proofs.EnterLaws.{enter_fits, entered_all}
 use Rattle.builder.proofs.TraceLaws.{refusal_of, lengths_of_lem, start_lengths, overlaid_itself, stands_counted, cut_close, no_cut_close, sep_short, mid_counted, roomy, addition_short, trace_began, trace_fits, trace_sane, trace_is_small, trace_next, trace_whole, trace_decides, next_short, next_lengths, mid_same}
 
@@ -60,8 +60,8 @@ cut_ends : (s : Builder) (key : List ℕ) {t : Bool} → t ≡ cut_of s → t �
 cut_ends s key e u = ap (λ (x : Builder). x.written) (sym (mid_is s key (sym u ∙ e))) ∙ ends_closed s (sep_of s key)
 
 module _ (s : Builder) (l : Lengths) (key word value : List ℕ) (r : Runs) where
-  pub put_refused : {e : Why.Refusal} → DecidedIs s l key (length value) (Err e) → PutIs s l key word value r r (record { answer = Err e; state = s })
-  put_refused {e} h =
+  pub put_refused : {e : Why.Refusal} {n : Builder} → DecidedIs s l key (length value) (Err e) n → PutIs s l key word value r r (record { answer = Err e; state = s })
+  put_refused {e} {n} h =
       record {
         number = number e;
         kind = numbers (h.kind e refl);
@@ -84,26 +84,26 @@ module _ (s : Builder) (l : Lengths) (key word value : List ℕ) (r : Runs) wher
       none (inl q) z = let v = ap number q in absurd (omega arith)
       none (inr q) z = let v = ap number q in absurd (omega arith)
 
-  pub put_done : {p : Plan} → DecidedIs s l key (length value) (Ok p) → {out₁ index₁ filters₁ index_restarts₁ offsets₁ out₂ restarts₂ hashes₂ : List ℕ}
+  pub put_done : {p : Plan} {n : Builder} → DecidedIs s l key (length value) (Ok p) n → {out₁ index₁ filters₁ index_restarts₁ offsets₁ out₂ restarts₂ hashes₂ : List ℕ}
       → ClosedOut p.cut s.pending s.written r.out out₁ r.restarts
-      → ClosedIndex p.cut s.pending s.written s.indexed (take p.next.indexed.len p.next.indexed.last) r.index index₁ r.index_restarts index_restarts₁
-      → MoreFilters p.cut (choice_of s.options.filter) (p.next.written / 2048) s.filtered s.made r.filters filters₁ r.offsets offsets₁ (take s.waiting r.hashes)
-      → EnteredRuns p.pending p.next.written p.waiting key word value out₁ out₂ r.restarts restarts₂ r.hashes hashes₂
-      → PutIs s l key word value r (seven out₂ index₁ filters₁ restarts₂ index_restarts₁ offsets₁ hashes₂) (record { answer = Ok tt; state = p.next })
-  put_done {p} h {out₁} {index₁} {filters₁} {index_restarts₁} {offsets₁} o i f e =
+      → ClosedIndex p.cut s.pending s.written s.indexed (take n.indexed.len n.indexed.last) r.index index₁ r.index_restarts index_restarts₁
+      → MoreFilters p.cut (choice_of s.options.filter) (n.written / 2048) s.filtered s.made r.filters filters₁ r.offsets offsets₁ (take s.waiting r.hashes)
+      → EnteredRuns (open_after p.cut s) n.written p.waiting key word value out₁ out₂ r.restarts restarts₂ r.hashes hashes₂
+      → PutIs s l key word value r (seven out₂ index₁ filters₁ restarts₂ index_restarts₁ offsets₁ hashes₂) (record { answer = Ok tt; state = n })
+  put_done {p} {n} h {out₁} {index₁} {filters₁} {index_restarts₁} {offsets₁} o i f e =
       let next = h.next p refl in
-      let x : index_key p.next ≡ index_key (mid_of s key) = ap index_key next ∙ (unfold index_key next_of entered_state in refl) in
-      let w : p.next.written ≡ (mid_of s key).written = ap (λ (n : Builder). n.written) next ∙ (unfold next_of entered_state in refl) in
-      let c : ClosedRuns p.cut s (index_key p.next) r (seven out₁ index₁ filters₁ r.restarts index_restarts₁ offsets₁ r.hashes) =
+      let x : index_key n ≡ index_key (mid_of s key) = ap index_key next ∙ (unfold index_key next_of entered_state in refl) in
+      let w : n.written ≡ (mid_of s key).written = ap (λ (d : Builder). d.written) next ∙ (unfold next_of entered_state in refl) in
+      let c : ClosedRuns p.cut s (index_key n) r (seven out₁ index₁ filters₁ r.restarts index_restarts₁ offsets₁ r.hashes) =
       record { out = o; index = (unfold index_key in i); filters = more_until (λ u. w ∙ cut_ends s key (h.cut p refl) u) f; restarts = refl; hashes = refl } in
       record {
         number = 0;
         kind = inl refl;
         answer = refl;
         decided = h.answer;
-        kept = λ n. absurd (n refl);
+        kept = λ z. absurd (z refl);
         state = λ q. next;
-        wrote = λ q. record { mid = _; cut = rw (x, h.cut p refl) at c; entered = rw (h.pending p refl, w, h.waiting p refl) at e; index = refl; filters = refl; index_restarts = refl; offsets = refl };
+        wrote = λ q. record { mid = _; cut = rw (x, h.cut p refl) at c; entered = rw (mid_open s key (h.cut p refl), w, h.waiting p refl) at e; index = refl; filters = refl; index_restarts = refl; offsets = refl };
       }
 
 -- ---- the trace

@@ -22,7 +22,7 @@ use Rattle.table.specs.Counts.{finished_size}
 use Rattle.builder.specs.declared.table_builder.Lengths.{Lengths}
 use Rattle.builder.specs.declared.table_builder.Builder.{Builder}
 use Rattle.builder.specs.State.{options_of, counts_in, same_lengths, sizes_fit, sane}
-use Rattle.builder.specs.Steps.{small, Small, last_of, closed_state, Roomy, entered_state, Whole, early_of, above_last, cut_of, sep_of, mid_of, next_of, fits_of, decide_of, DecidedIs}
+use Rattle.builder.specs.Steps.{small, Small, last_of, closed_state, Roomy, entered_state, Whole, early_of, above_last, cut_of, sep_of, mid_of, next_of, fits_of, decide_of, DecidedIs, open_after}
 use Rattle.builder.proofs.SizeLaws.{small_is, bounded_closed}
 
 -- ---- what a sane state has
@@ -113,6 +113,15 @@ pub mid_is : (s : Builder) (key : List ℕ) {t : Bool} → t ≡ cut_of s → co
 unfolding mid_of
 mid_is s key e = rw e
 
+-- the block that is open then
+pub mid_open : (s : Builder) (key : List ℕ) {t : Bool} → t ≡ cut_of s → open_after t s ≡ (mid_of s key).pending
+unfolding open_after closed_state
+mid_open s key {t} e = go t ∙ ap (λ (x : Builder). x.pending) (mid_is s key e)
+  where
+    go : (u : Bool) → cond u (new_builder s.options.interval) s.pending ≡ (cond u (closed_state s (sep_of s key)) s).pending
+    go true = refl
+    go false = refl
+
 pub mid_roomy : (s : Builder) (key : List ℕ) (v : ℕ) → Small s → s.pending.len ≤ 1032 → length key ≤ 1032 → v ≤ 32768 → {m : Builder} → m ≡ mid_of s key → Roomy m (length key) v
 mid_roomy s key v h n k j {m} e =
     test (cut_of s)
@@ -169,22 +178,21 @@ module _ (s : Builder) (l : Lengths) where
 -- ---- all of it
 
 module _ (s : Builder) (l : Lengths) (key : List ℕ) (v : ℕ) where
-  decided_not : {e : Why.Refusal} → (e ≡ Order) ⊎ (e ≡ Full) → (Whole (next_of s key v) → number e ≡ decide_of s l key v) → DecidedIs s l key v (Err e)
-  decided_not {e} k d =
+  decided_not : {e : Why.Refusal} → (e ≡ Order) ⊎ (e ≡ Full) → (Whole (next_of s key v) → number e ≡ decide_of s l key v) → {n : Builder} → DecidedIs s l key v (Err e) n
+  decided_not {e} k d {n} =
       record {
         kind = λ x q. rw (err_is q) at k;
         answer = d;
         cut = λ p q. err_not_ok q;
-        pending = λ p q. err_not_ok q;
         waiting = λ p q. err_not_ok q;
         next = λ p q. err_not_ok q;
       }
 
-  pub decided_large : {t : Bool} → t ≡ small s → t ≡ false → DecidedIs s l key v (Err Full)
+  pub decided_large : {t : Bool} → t ≡ small s → t ≡ false → {n : Builder} → DecidedIs s l key v (Err Full) n
   unfolding decide_of
   decided_large e f = decided_not (inr refl) (λ w. rw (sym e ∙ f))
 
-  pub decided_low : {t u : Bool} → t ≡ small s → t ≡ true → u ≡ above_last s key → u ≡ false → DecidedIs s l key v (Err Order)
+  pub decided_low : {t u : Bool} → t ≡ small s → t ≡ true → u ≡ above_last s key → u ≡ false → {n : Builder} → DecidedIs s l key v (Err Order) n
   unfolding decide_of
   decided_low e f g h = decided_not (inl refl) (λ w. rw (sym e ∙ f, sym g ∙ h))
 
@@ -197,18 +205,17 @@ module _ (s : Builder) (l : Lengths) (key : List ℕ) (v : ℕ) where
     fits_is : Whole (next_of s key v) → fits_of (next_of s key v) l ≡ r
     fits_is w = ap (λ (x : Builder). fits_of x l) (sym next_is) ∙ sym (k (rw next_is w))
 
-    pub decided_full : r ≡ false → DecidedIs s l key v (Err Full)
+    pub decided_full : r ≡ false → DecidedIs s l key v (Err Full) n'
     unfolding decide_of
     decided_full j = decided_not (inr refl) (λ w. rw (sym e ∙ f, sym g ∙ h, fits_is w ∙ j))
 
-    pub decided_ok : {c : Bool} → c ≡ cut_of s → r ≡ true → DecidedIs s l key v (Ok (record { cut = c; pending = m'.pending; waiting = m'.waiting; next = n' }))
+    pub decided_ok : {c : Bool} → c ≡ cut_of s → r ≡ true → DecidedIs s l key v (Ok (record { cut = c; waiting = m'.waiting })) n'
     unfolding decide_of
     decided_ok c j =
         record {
           kind = λ x y. ok_not_err y;
           answer = λ w. rw (sym e ∙ f, sym g ∙ h, fits_is w ∙ j);
           cut = λ x y. rw (← ok_is y) c;
-          pending = λ x y. rw (← ok_is y) (ap (λ (z : Builder). z.pending) p);
           waiting = λ x y. rw (← ok_is y) (ap (λ (z : Builder). z.waiting) p);
-          next = λ x y. rw (← ok_is y) next_is;
+          next = λ x y. next_is;
         }

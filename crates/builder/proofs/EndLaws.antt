@@ -18,8 +18,8 @@ use Rattle.builder.specs.State.{options_of, counts_in}
 use Rattle.builder.specs.Steps.{small, Small, Whole, filter_count_in, filters_in, last_state, last_filters, endable, EndingIs}
 
 module _ (s : Builder) (l : Lengths) where
-  ending_not : (Whole s → ◌≡◌ {A = ℕ} 5 (cond (small s && endable s l) 0 5)) → EndingIs s l (Err Full)
-  ending_not e =
+  ending_not : (Whole s → ◌≡◌ {A = ℕ} 5 (cond (small s && endable s l) 0 5)) → {d : Builder} → EndingIs s l (Err Full) d
+  ending_not e {d} =
       record {
         kind = λ x q. sym (err_is q);
         answer = e;
@@ -30,7 +30,7 @@ module _ (s : Builder) (l : Lengths) where
         within = λ p q. err_not_ok q;
       }
 
-  pub ending_large : {t : Bool} → t ≡ small s → t ≡ false → EndingIs s l (Err Full)
+  pub ending_large : {t : Bool} → t ≡ small s → t ≡ false → {d : Builder} → EndingIs s l (Err Full) d
   ending_large e f = ending_not (λ w. rw (sym e ∙ f))
 
   module _ (k : Small s) {t r : Bool} (e : t ≡ small s) (g : t ≡ true) (size : ℕ) (last : Builder) (f : FilterSizes) (es : Whole s → size ≡ finished_size (options_of s.options) (counts_in s)) (el : last ≡ last_state s)
@@ -52,10 +52,10 @@ module _ (s : Builder) (l : Lengths) where
         let d = ap (λ (z : Builder). z.indexed.bytes) el in
         sym (er ∙ rw (a, b, c, d))
 
-    pub ending_full : r ≡ false → EndingIs s l (Err Full)
+    pub ending_full : r ≡ false → EndingIs s l (Err Full) last
     ending_full n = ending_not (λ w. rw (small_yes, test_is w, n))
 
-    pub ending_ok : r ≡ true → EndingIs s l (Ok (record { size = size; last = last; sizes = f }))
+    pub ending_ok : r ≡ true → EndingIs s l (Ok (record { size = size; sizes = f })) last
     ending_ok n =
         let p = both (leb size l.out) _ (sym er ∙ n) in
         let q = both (leb f.bytes l.filters) _ p.1 in
@@ -65,7 +65,7 @@ module _ (s : Builder) (l : Lengths) where
           answer = λ w. rw (small_yes, test_is w, n);
           size = λ x y w. rw (← ok_is y) (es w);
           small = λ x y. k;
-          last = λ x y. rw (← ok_is y) el;
+          last = λ x y. el;
           sizes = λ x y. rw (← ok_is y) sizes_is;
           within = λ x y. rw (← ok_is y) (leb-true _ _ q.0, (leb-true _ _ v.0, leb-true _ _ v.1));
         }

@@ -5,7 +5,7 @@ use mathlib.Core.List.{List, [], ◌∷◌, ◌++◌, map, append-nil}
 use mathlib.Core.Bool.{Bool, true, not, false≢true}
 use native.Mathlib.Omega.{arith}
 use lib.Dec.{eqb}
-use lib.ListN.{length, take, length-take}
+use lib.ListN.{length, take}
 use Rattle.codec.proofs.Lists.{no_length}
 use borrow.Author.Tests.{le-leb, eq-eqb, ne_eqb}
 use Rattle.blocks.specs.Block.{packed, restarts_of}
@@ -304,11 +304,11 @@ module _ (o : Options) (more : List Addition) (b : Building) (s : Builder) (r : 
         le-leb mid.indexed.bytes (length r.index) (omega (arith, x.index, mid_fits.index, rooms.index)),
       )
 
-  pub end_decides : {x : Result Ending Why.Refusal} → EndingIs s (lengths_of r) x → said x ≡ 0
+  pub end_decides : {x : Result Ending Why.Refusal} {d : Builder} → EndingIs s (lengths_of r) x d → said x ≡ 0
   end_decides g = g.answer h.whole ∙ rw (trace_small o more b s r e t, end_endable)
 
-  pub end_sized : {p : Ending} → EndingIs s (lengths_of r) (Ok p) → p.size ≡ length (Build.finish o b)
-  end_sized {p} g = g.size p refl h.whole ∙ end_size_lem
+  pub end_sized : {p : Ending} {d : Builder} → EndingIs s (lengths_of r) (Ok p) d → p.size ≡ length (Build.finish o b)
+  end_sized {p} {d} g = g.size p refl h.whole ∙ end_size_lem
 
 -- ---- finish
 
@@ -332,8 +332,8 @@ module _ (s : Builder) (r : Runs) where
     pub finish_is_sane : sane s (lengths_of r) ≡ true
     finish_is_sane = (early_zero s (lengths_of r) true z).0
 
-    pub finish_full : {e : Why.Refusal} → EndingIs s (lengths_of r) (Err e) → FinishedIs s r r (record { answer = Err e; state = s })
-    finish_full {e} g =
+    pub finish_full : {e : Why.Refusal} {d : Builder} → EndingIs s (lengths_of r) (Err e) d → FinishedIs s r r (record { answer = Err e; state = s })
+    finish_full {e} {d} g =
         let five : number e ≡ 5 = ap number (g.kind e refl) in
         record {
           early = λ x. absurd (x z);
@@ -344,46 +344,48 @@ module _ (s : Builder) (r : Runs) where
           runs = λ o more b ac t. let v = end_decides o more b s r ac t g in absurd (omega arith);
         }
 
-    module _ {p : Ending} (g : EndingIs s (lengths_of r) (Ok p)) where
-      -- the end's numbers are far below 64 bits, whatever the filters' runs hold
-      end_numbers : (fs os ix : List ℕ) → length ix ≡ length r.index → EndFits p.last.written (length (take p.sizes.bytes fs)) (length (take p.sizes.made os)) p.last.indexed (length ix)
+    module _ {p : Ending} {d : Builder} (g : EndingIs s (lengths_of r) (Ok p) d) where
+      -- the end's numbers are far below 64 bits, and what it is written from stands within the runs
+      finish_fits : EndFits d.written p.sizes.bytes p.sizes.made d.indexed (length r.filters) (length r.offsets) (length r.index)
       unfolding lengths_of last_filters
-      end_numbers fs os ix l =
+      finish_fits =
           let x = sane_is s (lengths_of r) finish_is_sane in
           let w = g.within p refl in
-          let ef = g.sizes p refl ∙ ap (λ (d : Builder). count_last (choice_of s.options.filter) (filter_count_in (filters_in d))) (sym (g.last p refl)) in
-          let v = Size.last_sizes s (g.small p refl) (last_short s x.len) p.last p.sizes (g.last p refl) ef in
+          let ef = g.sizes p refl ∙ ap (λ (x : Builder). count_last (choice_of s.options.filter) (filter_count_in (filters_in x))) (sym (g.last p refl)) in
+          let v = Size.last_sizes s (g.small p refl) (last_short s x.len) d p.sizes (g.last p refl) ef in
           record {
             written = v.2;
-            filter_bytes = omega (arith, v.0, length-take p.sizes.bytes fs);
-            filter_count = omega (arith, v.1, length-take p.sizes.made os);
+            filter_bytes = v.0;
+            filter_count = v.1;
             index_size = v.3;
-            in_index = omega (arith, w.1.1);
+            in_filters = w.0;
+            in_offsets = w.1.0;
+            in_index = w.1.1;
           }
 
       module _ {closing : Bool} (c : closing ≡ not (eqb s.pending.restarts 0)) {out₁ index₁ filters₁ index_restarts₁ offsets₁ filters₂ offsets₂ out₂ : List ℕ}
           (co : ClosedOut closing s.pending s.written r.out out₁ r.restarts)
-          (ci : ClosedIndex closing s.pending s.written s.indexed (take p.last.indexed.len p.last.indexed.last) r.index index₁ r.index_restarts index_restarts₁)
-          (cf : MoreFilters closing (choice_of s.options.filter) (p.last.written / 2048) s.filtered s.made r.filters filters₁ r.offsets offsets₁ (take s.waiting r.hashes))
-          (lf : MoreFilters (not (eqb p.last.waiting 0)) (choice_of s.options.filter) p.sizes.made p.last.filtered p.last.made filters₁ filters₂ offsets₁ offsets₂ (take p.last.waiting r.hashes))
-          (ew : EndWritten s.options.interval (choice_of s.options.filter) p.last.written p.last.indexed (take p.sizes.bytes filters₂) (take p.sizes.made offsets₂) index₁ index_restarts₁ out₁ out₂)
+          (ci : ClosedIndex closing s.pending s.written s.indexed (take d.indexed.len d.indexed.last) r.index index₁ r.index_restarts index_restarts₁)
+          (cf : MoreFilters closing (choice_of s.options.filter) (d.written / 2048) s.filtered s.made r.filters filters₁ r.offsets offsets₁ (take s.waiting r.hashes))
+          (lf : MoreFilters (not (eqb d.waiting 0)) (choice_of s.options.filter) p.sizes.made d.filtered d.made filters₁ filters₂ offsets₁ offsets₂ (take d.waiting r.hashes))
+          (ew : EndWritten s.options.interval (choice_of s.options.filter) d.written p.sizes.bytes p.sizes.made d.indexed filters₂ offsets₂ index₁ index_restarts₁ out₁ out₂)
           (lens : (length filters₂ ≡ length r.filters) × ((length offsets₂ ≡ length r.offsets) × (length index₁ ≡ length r.index))) where
         abbrev r' : Runs
         r' = seven out₂ index₁ filters₂ r.restarts index_restarts₁ offsets₂ r.hashes
 
         ended : EndRuns s (last_state s) p.sizes r r'
         ended =
-            let d : (closing ≡ true → p.last.written ≡ ends_at s) → ClosedRuns closing s (index_key p.last) r (seven out₁ index₁ filters₁ r.restarts index_restarts₁ offsets₁ r.hashes) =
+            let cl : (closing ≡ true → d.written ≡ ends_at s) → ClosedRuns closing s (index_key d) r (seven out₁ index₁ filters₁ r.restarts index_restarts₁ offsets₁ r.hashes) =
             λ e. (unfold index_key in record { out = co; index = ci; filters = more_until e cf; restarts = refl; hashes = refl }) in
-            let fits : EndFits p.last.written (length (take p.sizes.bytes filters₂)) (length (take p.sizes.made offsets₂)) p.last.indexed (length index₁) = end_numbers filters₂ offsets₂ index₁ lens.1.1 in
+            let fits : EndFits d.written p.sizes.bytes p.sizes.made d.indexed (length filters₂) (length offsets₂) (length index₁) = rw (lens.0, lens.1.0, lens.1.1) finish_fits in
             record {
               mid = _;
               closed =
                   record {
                     some = λ n.
                         let e = ap (λ (x : Builder). x.written) (g.last p refl ∙ sym (Size.last_some s n)) ∙ ends_closed s (last_of s) in
-                        rw (g.last p refl, c ∙ ap not (ne_eqb s.pending.restarts 0 n)) at (d (λ u. e));
-                    none = λ n. let u = c ∙ ap not (eq-eqb s.pending.restarts 0 n) in closed_kept (d (λ v. absurd (false≢true (sym u ∙ v)))) u;
+                        rw (g.last p refl, c ∙ ap not (ne_eqb s.pending.restarts 0 n)) at (cl (λ u. e));
+                    none = λ n. let u = c ∙ ap not (eq-eqb s.pending.restarts 0 n) in closed_kept (cl (λ v. absurd (false≢true (sym u ∙ v)))) u;
                   };
               filters = rw (g.last p refl) at lf;
               out = rw (g.last p refl) at (ew.done fits);

@@ -5,6 +5,7 @@ use Rattle.table_block.specs.declared.refusal.Refusal.TheVariants.{Order, Full}
 use Rattle.table_block.specs.Refusals.{number, refusal}
 use Rattle.keys.specs.Order.{below, separator}
 use Rattle.blocks.specs.Count.{count_size}
+use Rattle.block_builder.specs.declared.block_builder.BlockBuilder.{BlockBuilder}
 use Rattle.block_builder.specs.Builder.{count_in, new_builder, builder_after}
 use Rattle.filters.specs.FilterCount.{FilterCount, count_up_to, count_last}
 use Rattle.bloom.specs.Choice.{choice_of}
@@ -189,14 +190,17 @@ pub record Ready (s : Builder) (l : Lengths) (k v : ℕ) : Type 0 where
   pub key : k ≤ 1032
   pub value : v ≤ 32768
 
--- deciding answers r
-pub record DecidedIs (s : Builder) (l : Lengths) (key : List ℕ) (value : ℕ) (r : Result Plan Why.Refusal) : Type 0 where
+-- deciding answers r, and leaves the state after
+pub record DecidedIs (s : Builder) (l : Lengths) (key : List ℕ) (value : ℕ) (r : Result Plan Why.Refusal) (after : Builder) : Type 0 where
   pub kind : (e : Why.Refusal) → r ≡ Err e → (e ≡ Order) ⊎ (e ≡ Full)
   pub answer : Whole (next_of s key value) → said r ≡ decide_of s l key value
   pub cut : (p : Plan) → r ≡ Ok p → p.cut ≡ cut_of s
-  pub pending : (p : Plan) → r ≡ Ok p → p.pending ≡ (mid_of s key).pending
   pub waiting : (p : Plan) → r ≡ Ok p → p.waiting ≡ (mid_of s key).waiting
-  pub next : (p : Plan) → r ≡ Ok p → p.next ≡ next_of s key value
+  pub next : (p : Plan) → r ≡ Ok p → after ≡ next_of s key value
+
+-- the block that is open after a cut, if there is one
+unfoldable pub open_after : Bool → Builder → BlockBuilder
+open_after cut s = cond cut (new_builder s.options.interval) s.pending
 
 -- ---- the end
 
@@ -210,12 +214,12 @@ endable s l =
     leb (finished_size (options_of s.options) (counts_in s)) l.out
     && (leb (last_filters s).bytes l.filters && (leb (last_filters s).made l.offsets && leb (last_state s).indexed.bytes l.index))
 
--- deciding of a finish answers r
-pub record EndingIs (s : Builder) (l : Lengths) (r : Result Ending Why.Refusal) : Type 0 where
+-- deciding of a finish answers r, and leaves the state after
+pub record EndingIs (s : Builder) (l : Lengths) (r : Result Ending Why.Refusal) (after : Builder) : Type 0 where
   pub kind : (e : Why.Refusal) → r ≡ Err e → e ≡ Full
   pub answer : Whole s → said r ≡ cond (small s && endable s l) 0 5
   pub size : (p : Ending) → r ≡ Ok p → Whole s → p.size ≡ finished_size (options_of s.options) (counts_in s)
   pub small : (p : Ending) → r ≡ Ok p → Small s
-  pub last : (p : Ending) → r ≡ Ok p → p.last ≡ last_state s
+  pub last : (p : Ending) → r ≡ Ok p → after ≡ last_state s
   pub sizes : (p : Ending) → r ≡ Ok p → filter_count_in p.sizes ≡ last_filters s
-  pub within : (p : Ending) → r ≡ Ok p → (p.sizes.bytes ≤ l.filters) × ((p.sizes.made ≤ l.offsets) × (p.last.indexed.bytes ≤ l.index))
+  pub within : (p : Ending) → r ≡ Ok p → (p.sizes.bytes ≤ l.filters) × ((p.sizes.made ≤ l.offsets) × (after.indexed.bytes ≤ l.index))

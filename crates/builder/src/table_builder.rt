@@ -2,6 +2,7 @@
 // options, the runs' lengths and counts. Everything is decided from these before anything is written.
 ghost use Rattle.std.specs.Prelude.{◌≡◌, true, ◌&&◌, ◌+◌, ◌*◌, ◌^◌, ◌≤◌, ◌<◌, leb, length, take};
 ghost use Rattle.bloom.specs.Choice.{choice_of};
+ghost use Rattle.table_write.specs.Writes.{EnteredRuns};
 ghost use Rattle.filters.specs.FilterCount.{filter_bytes_of, count_made, count_last};
 ghost use Rattle.keys.specs.Order.{below, separator, internal};
 ghost use Rattle.table.specs.Options.{options_fit, filtering_fits, empty_size, addition_fits};
@@ -9,12 +10,12 @@ ghost use Rattle.table.specs.Runs.{room_of};
 ghost use Rattle.table.specs.Counts.{end_size, finished_size};
 ghost use Rattle.builder.specs.State.{options_of, counts_in, seven, lent, lengths_of, runs_fit, sizes_fit, sane, begun};
 ghost use Rattle.builder.specs.Answers.{StartedIs, AddedIs, FinishedIs};
-ghost use Rattle.builder.specs.Steps.{small, Small, filter_count_in, filters_in, close_in, closed_state, Roomy, entered_state, last_state, sizes_in, Whole, cut_of, mid_of, above_last, last_of, fits_of, early_of, unless, Ready, DecidedIs, EndingIs};
+ghost use Rattle.builder.specs.Steps.{small, Small, filter_count_in, filters_in, close_in, closed_state, Roomy, entered_state, last_state, sizes_in, Whole, cut_of, mid_of, above_last, last_of, fits_of, early_of, unless, Ready, DecidedIs, open_after, EndingIs};
 
 use block_builder::block_builder::BlockBuilder;
 use bloom::filter::filter_bytes;
 use codec::blockhandle::BlockHandle;
-use codec::limits::within;
+use codec::limits::{least, within};
 use codec::varint::varint_len;
 use keys::cmp::find_internal_sep;
 use keys::key_types::{build_internal_key, key_below};
@@ -103,7 +104,7 @@ fn sum_fits(a: usize, b: usize, n: usize) -> bool
 fn room(n: usize) -> usize
     ensures { result ≡ room_of n }
 {
-    TABLE_LIMIT.min(n)
+    least(TABLE_LIMIT, n)
 }
 
 // Whether a filter choice is within the limits.
@@ -182,8 +183,8 @@ pub fn start(options: Options, runs: Runs<'_>) -> Result<Builder, Refusal>
 
 // Whether each size is within its run, and both last keys are within their arrays.
 #[tactic(auto, unfolding(crate::specs::State::sizes_fit))]
-fn sizes_fit(s: Builder, l: Lengths) -> bool
-    ensures { result ≡ sizes_fit s l }
+fn sizes_fit(s: &Builder, l: Lengths) -> bool
+    ensures { result ≡ sizes_fit s.now l }
 {
     sum_fits(s.written, s.pending.bytes, l.out)
         && s.indexed.bytes <= l.index
@@ -198,16 +199,16 @@ fn sizes_fit(s: Builder, l: Lengths) -> bool
 
 // Whether a state is one of runs of such lengths.
 #[tactic(auto, unfolding(crate::specs::State::sane, crate::specs::State::same_lengths))]
-fn is_sane(s: Builder, l: Lengths) -> bool
-    ensures { result ≡ sane s l }
+fn is_sane(s: &Builder, l: Lengths) -> bool
+    ensures { result ≡ sane s.now l }
 {
     s.lengths == l && options_fit(s.options) && sizes_fit(s, l)
 }
 
 // Whether a state's counts are those that a table within the limit can have.
 #[tactic(auto, unfolding(crate::specs::Steps::small))]
-fn is_small(s: Builder) -> bool
-    ensures { result ≡ small s }
+fn is_small(s: &Builder) -> bool
+    ensures { result ≡ small s.now }
 {
     s.pending.interval == s.options.interval
         && s.indexed.interval == s.options.interval
@@ -225,10 +226,10 @@ fn is_small(s: Builder) -> bool
 
 // A state whose counts are small, and whose last key is within its array.
 #[derive(Clone, Copy)]
-struct SmallBuilder {
-    state: Builder,
-    ghost small: { Small state },
-    ghost short: { state.pending.len ≤ 1032 },
+struct SmallBuilder<'a> {
+    state: &'a Builder,
+    ghost small: { Small state.now },
+    ghost short: { state.now.pending.len ≤ 1032 },
 }
 
 // The filters' bytes, how many there are, and how many hashes wait.
@@ -240,8 +241,8 @@ struct FilterSizes {
 }
 
 // Those of a state.
-fn filters_of(s: Builder) -> FilterSizes
-    ensures { result ≡ filters_in s }
+fn filters_of(s: &Builder) -> FilterSizes
+    ensures { result ≡ filters_in s.now }
 {
     FilterSizes {
         bytes: s.filtered,
@@ -285,22 +286,20 @@ struct Close {
     filters: FilterSizes,
 }
 
-// The state with one entry more in the open block.
-fn entered(s: Builder, key: &[u8], value_len: usize) -> Builder
-    requires { Roomy s (length key.now) value_len }
-    ensures { result ≡ entered_state s key.now value_len }
+// One entry more in the open block.
+fn enter(next: &mut Builder, key: &[u8], value_len: usize)
+    requires { Roomy next.old (length key.now) value_len }
+    ensures { next.new ≡ entered_state next.old key.now value_len }
 {
-    let mut next = s;
     let _ = next.pending.count(key, value_len);
     next.waiting += 1;
-    next
 }
 
 // The first n of some values, or all of them.
 fn front<T>(xs: &[T], n: usize) -> &[T]
     ensures { result.now ≡ take n xs.now }
 {
-    &xs[..n.min(xs.len())]
+    &xs[..least(n, xs.len())]
 }
 
 // The bytes of data blocks, and then of filter block, metaindex, an index block of so many bytes, and footer.
@@ -339,8 +338,8 @@ fn addition_fits(word: &[u8], edition: u64, kind: u8, value: &[u8]) -> bool
 }
 
 // The refusals 6, 2 and 3.
-fn early(s: Builder, l: Lengths, fits: bool) -> Result<(), Refusal>
-    ensures { result ≡ unless (early_of s l fits) }
+fn early(s: &Builder, l: Lengths, fits: bool) -> Result<(), Refusal>
+    ensures { result ≡ unless (early_of s.now l fits) }
 {
     if s.finished {
         return Err(Refusal::Finished);
@@ -355,8 +354,8 @@ fn early(s: Builder, l: Lengths, fits: bool) -> Result<(), Refusal>
 }
 
 // Whether a key is above the last one of the open block.
-fn is_above(s: Builder, key: &[u8]) -> bool
-    ensures { result ≡ above_last s key.now }
+fn is_above(s: &Builder, key: &[u8]) -> bool
+    ensures { result ≡ above_last s.now key.now }
 {
     s.pending.restarts == 0 || key_below(front(&s.pending.last, s.pending.len), key)
 }
@@ -369,11 +368,11 @@ fn put_separator(sep: &mut [u8], last: &[u8], key: &[u8]) -> usize
     find_internal_sep(sep, 0, last, key).unwrap_or(0)
 }
 
-impl SmallBuilder {
+impl SmallBuilder<'_> {
     // The open block's last key.
     #[tactic(auto, unfolding(crate::specs::Steps::last_of))]
     fn last(&self) -> &[u8]
-        ensures said { result.now ≡ last_of self.now.state }
+        ensures said { result.now ≡ last_of self.now.state.now }
         ensures short { length result.now ≤ 1032 }
     {
         front(&self.state.pending.last, self.state.pending.len)
@@ -381,41 +380,36 @@ impl SmallBuilder {
 
     // What the open block is when it is closed.
     fn close(&self) -> Close
-        ensures { result ≡ close_in self.now.state }
+        ensures { result ≡ close_in self.now.state.now }
     {
-        let s = &self.state;
+        let s = self.state;
         let size = s.pending.size_estimate();
         let end = s.written + size + 5;
         Close {
             end,
             handle: varint_len(s.written) + varint_len(size),
-            filters: made_until(s.options.filter, end / 2048, filters_of(*s)),
+            filters: made_until(s.options.filter, end / 2048, filters_of(s)),
         }
     }
 
-    // The state with the open block closed and indexed under a key.
-    fn closed(&self, key: &[u8]) -> Builder
-        requires { length key.now ≤ 1032 }
-        ensures { result ≡ closed_state self.now.state key.now }
+    // Closes the open block of next, which is this state, and indexes it under a key.
+    fn close_under(&self, key: &[u8], next: &mut Builder)
+        requires { (length key.now ≤ 1032) × (next.old ≡ self.now.state.now) }
+        ensures { next.new ≡ closed_state self.now.state.now key.now }
     {
         let c = self.close();
-        let mut indexed = self.state.indexed;
-        let _ = indexed.count(key, c.handle);
-        Builder {
-            written: c.end,
-            pending: BlockBuilder::new(self.state.options.interval),
-            indexed,
-            filtered: c.filters.bytes,
-            made: c.filters.made,
-            waiting: c.filters.waiting,
-            ..self.state
-        }
+        next.written = c.end;
+        next.pending = BlockBuilder::new(self.state.options.interval);
+        let _ = next.indexed.count(key, c.handle);
+        next.filtered = c.filters.bytes;
+        next.made = c.filters.made;
+        next.waiting = c.filters.waiting;
     }
 
-    // The same in numbers, without making that state.
+    // The same in numbers, without a state to close.
     fn closed_sizes(&self, key: &[u8]) -> Sizes
         requires { length key.now ≤ 1032 }
-        ensures { result ≡ sizes_in (closed_state self.now.state key.now) }
+        ensures { result ≡ sizes_in (closed_state self.now.state.now key.now) }
     {
         let c = self.close();
         Sizes {
@@ -425,19 +419,20 @@ impl SmallBuilder {
         }
     }
 
-    // At the end: the state with a pending block closed, and indexed under its last key.
-    fn closed_last(&self) -> Builder
-        ensures { result ≡ last_state self.now.state }
+    // At the end: closes a pending block of last, which is this state, and indexes it under its last key.
+    fn close_last(&self, last: &mut Builder)
+        requires { last.old ≡ self.now.state.now }
+        ensures { last.new ≡ last_state self.now.state.now }
     {
         if self.state.pending.restarts == 0 {
-            return self.state;
+            return;
         }
-        self.closed(self.last())
+        self.close_under(self.last(), last);
     }
 
     // The same in numbers.
     fn last_sizes(&self) -> Sizes
-        ensures { result ≡ sizes_in (last_state self.now.state) }
+        ensures { result ≡ sizes_in (last_state self.now.state.now) }
     {
         if self.state.pending.restarts == 0 {
             return Sizes {
@@ -451,7 +446,7 @@ impl SmallBuilder {
 
     // The bytes of the table finished now.
     fn finished_size(&self) -> usize
-        ensures { Whole self.now.state → result ≡ finished_size (options_of self.now.state.options) (counts_in self.now.state) }
+        ensures { Whole self.now.state.now → result ≡ finished_size (options_of self.now.state.now.options) (counts_in self.now.state.now) }
     {
         let filter = self.state.options.filter;
         let d = self.last_sizes();
@@ -461,28 +456,28 @@ impl SmallBuilder {
 
     // Whether the open block is over the block size.
     fn is_cut(&self) -> bool
-        ensures { result ≡ cut_of self.now.state }
+        ensures { result ≡ cut_of self.now.state.now }
     {
         self.state.options.block_size < self.state.pending.size_estimate()
     }
 
-    // The state after a cut before a key, if there is one.
-    fn cut_before(&self, cut: bool, key: &[u8]) -> Builder
-        requires { cut ≡ cut_of self.now.state }
-        ensures { result ≡ mid_of self.now.state key.now }
+    // Makes the cut before a key, if there is one, in next, which is this state.
+    fn cut_before(&self, cut: bool, key: &[u8], next: &mut Builder)
+        requires { (cut ≡ cut_of self.now.state.now) × (next.old ≡ self.now.state.now) }
+        ensures { next.new ≡ mid_of self.now.state.now key.now }
     {
         if !cut {
-            return self.state;
+            return;
         }
         let mut sep = [0u8; 1032];
         let n = put_separator(&mut sep, self.last(), key);
-        self.closed(&sep[..n])
+        self.close_under(&sep[..n], next);
     }
 }
 
 // Whether a state is one that a table within the room can have.
-fn has_room(s: Builder, l: Lengths) -> bool
-    ensures { Whole s → result ≡ fits_of s l }
+fn has_room(s: &Builder, l: Lengths) -> bool
+    ensures { Whole s.now → result ≡ fits_of s.now l }
 {
     if !is_sane(s, l) {
         return false;
@@ -493,20 +488,23 @@ fn has_room(s: Builder, l: Lengths) -> bool
     SmallBuilder { state: s }.finished_size() <= room(l.out)
 }
 
-// What is decided of an addition: whether there is a cut, the open block and how many hashes wait after it, and the state with
-// the entry.
+// What is decided of an addition beside the state with the entry: whether there is a cut, and how many hashes wait after it.
 #[derive(Clone, Copy)]
 struct Plan {
     cut: bool,
-    pending: BlockBuilder,
     waiting: usize,
-    next: Builder,
 }
 
-// Everything is decided here, and nothing written.
-fn decide(s: Builder, l: Lengths, key: &[u8], value_len: usize) -> Result<Plan, Refusal>
-    requires { Ready s l (length key.now) value_len }
-    ensures { DecidedIs s l key.now value_len result }
+// Everything is decided here, and nothing written in the runs: next, which is the state, becomes that with the entry.
+fn decide(
+    s: &Builder,
+    l: Lengths,
+    key: &[u8],
+    value_len: usize,
+    next: &mut Builder,
+) -> Result<Plan, Refusal>
+    requires { (Ready s.now l (length key.now) value_len) × (next.old ≡ s.now) }
+    ensures { DecidedIs s.now l key.now value_len result next.new }
 {
     if !is_small(s) {
         return Err(Refusal::Full);
@@ -516,17 +514,40 @@ fn decide(s: Builder, l: Lengths, key: &[u8], value_len: usize) -> Result<Plan, 
     }
     let before = SmallBuilder { state: s };
     let cut = before.is_cut();
-    let mid = before.cut_before(cut, key);
-    let next = entered(mid, key, value_len);
+    before.cut_before(cut, key, next);
+    let waiting = next.waiting;
+    enter(next, key, value_len);
     if !has_room(next, l) {
         return Err(Refusal::Full);
     }
-    Ok(Plan {
-        cut,
-        pending: mid.pending,
-        waiting: mid.waiting,
-        next,
-    })
+    Ok(Plan { cut, waiting })
+}
+
+// Writes an entry into the block that is open after a cut, if there is one, and its word's hash behind those that wait.
+fn write_after(
+    cut: bool,
+    s: &Builder,
+    at: usize,
+    waiting: usize,
+    key: &[u8],
+    word: &[u8],
+    value: &[u8],
+    out: &mut [u8],
+    restarts: &mut [u32],
+    hashes: &mut [u32],
+)
+    ensures { EnteredRuns (open_after cut s.now) at waiting key.now word.now value.now out.old out.new restarts.old restarts.new hashes.old hashes.new }
+{
+    if !cut {
+        write_entry(
+            &s.pending, at, waiting, key, word, value, out, restarts, hashes,
+        );
+        return;
+    }
+    let pending = BlockBuilder::new(s.options.interval);
+    write_entry(
+        &pending, at, waiting, key, word, value, out, restarts, hashes,
+    );
 }
 
 // The internal key of an addition goes to the front of key; how many bytes it has.
@@ -537,11 +558,11 @@ fn put_key(key: &mut [u8], word: &[u8], edition: u64, kind: u8) -> usize
     build_internal_key(key, 0, word, edition, kind).unwrap_or(0)
 }
 
-// What is decided of a finish: the table's size, the state with the last block closed, and the filters with the last one made.
+// What is decided of a finish beside the state with the last block closed: the table's size, and the filters with the last one
+// made.
 #[derive(Clone, Copy)]
 struct Ending {
     size: usize,
-    last: Builder,
     sizes: FilterSizes,
 }
 
@@ -552,26 +573,22 @@ fn end_fits(l: Lengths, size: usize, f: FilterSizes, index: usize) -> bool
     size <= l.out && f.bytes <= l.filters && f.made <= l.offsets && index <= l.index
 }
 
-// Everything is decided here, and nothing written.
-fn decide_end(s: Builder, l: Lengths) -> Result<Ending, Refusal>
-    requires { sane s l ≡ true }
-    ensures { EndingIs s l result }
+// Everything is decided here, and nothing written in the runs: last, which is the state, becomes that with the last block closed.
+fn decide_end(s: &Builder, l: Lengths, last: &mut Builder) -> Result<Ending, Refusal>
+    requires { (sane s.now l ≡ true) × (last.old ≡ s.now) }
+    ensures { EndingIs s.now l result last.new }
 {
     if !is_small(s) {
         return Err(Refusal::Full);
     }
-    let last = SmallBuilder { state: s }.closed_last();
+    SmallBuilder { state: s }.close_last(last);
     let filter = s.options.filter;
     let f = last_made(filter, filters_of(last));
     let size = end_size(filter, last.written, f, last.indexed.size_estimate());
     if !end_fits(l, size, f, last.indexed.bytes) {
         return Err(Refusal::Full);
     }
-    Ok(Ending {
-        size,
-        last,
-        sizes: f,
-    })
+    Ok(Ending { size, sizes: f })
 }
 
 impl Builder {
@@ -587,10 +604,11 @@ impl Builder {
         ensures { AddedIs self.old (lent runs.entry) (seven runs.exit.0.now runs.exit.1.0.now runs.exit.1.1.0.now runs.exit.1.1.1.0.now runs.exit.1.1.1.1.0.now runs.exit.1.1.1.1.1.0.now runs.exit.1.1.1.1.1.1.0.now) (record { word = word.entry.now; edition = edition; kind = kind; value = value.now }) (record { answer = result; state = self.new }) }
     {
         let lengths = runs.lengths();
-        early(*self, lengths, addition_fits(word, edition, kind, value))?;
+        early(self, lengths, addition_fits(word, edition, kind, value))?;
         let mut key = [0u8; 1032];
         let n = put_key(&mut key, word, edition, kind);
-        let p = decide(*self, lengths, &key[..n], value.len())?;
+        let mut next = *self;
+        let p = decide(self, lengths, &key[..n], value.len(), &mut next)?;
         let Runs {
             out,
             index,
@@ -600,7 +618,6 @@ impl Builder {
             offsets,
             hashes,
         } = runs;
-        let next = p.next;
         close_out(p.cut, &self.pending, self.written, out, restarts);
         close_index(
             p.cut,
@@ -621,8 +638,9 @@ impl Builder {
             offsets,
             self.made,
         );
-        write_entry(
-            &p.pending,
+        write_after(
+            p.cut,
+            self,
             next.written,
             p.waiting,
             &key[..n],
@@ -641,8 +659,9 @@ impl Builder {
         ensures { FinishedIs self.old (lent runs.entry) (seven runs.exit.0.now runs.exit.1.0.now runs.exit.1.1.0.now runs.exit.1.1.1.0.now runs.exit.1.1.1.1.0.now runs.exit.1.1.1.1.1.0.now runs.exit.1.1.1.1.1.1.0.now) (record { answer = result; state = self.new }) }
     {
         let lengths = runs.lengths();
-        early(*self, lengths, true)?;
-        let p = decide_end(*self, lengths)?;
+        early(self, lengths, true)?;
+        let mut last = *self;
+        let p = decide_end(self, lengths, &mut last)?;
         let Runs {
             out,
             index,
@@ -653,7 +672,6 @@ impl Builder {
             hashes,
         } = runs;
         let closing = self.pending.restarts != 0;
-        let last = p.last;
         let filter = self.options.filter;
         close_out(closing, &self.pending, self.written, out, restarts);
         close_index(
@@ -690,8 +708,10 @@ impl Builder {
             last.written,
             self.options.interval,
             filter,
-            front(filters, p.sizes.bytes),
-            front(offsets, p.sizes.made),
+            filters,
+            p.sizes.bytes,
+            offsets,
+            p.sizes.made,
             &last.indexed,
             index,
             index_restarts,

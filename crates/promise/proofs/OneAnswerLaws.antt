@@ -19,13 +19,16 @@ use Rattle.table.specs.Runs.{Runs, room_of, overlay}
 use Rattle.table.specs.Reads.{Answer, refused, point_fits, buffer_after, Of, seek_says, lookup_says, step_says}
 use Rattle.table.specs.Reads
 use Rattle.filters.specs.FilterBlock.{filter_block_of}
-use Rattle.blocks.specs.Block.{block_bytes}
+use mathlib.Core.Option.{some_inj}
+use Rattle.blocks.specs.Block.{Entry, block_bytes}
 use Rattle.blocks.specs.Count.{BlockCount}
 use Rattle.block_builder.specs.Builder.{count_in}
 use Rattle.block_builder.specs.declared.block_builder.BlockBuilder.{BlockBuilder}
+use Rattle.block_reader.specs.declared.block.EntryRead.{EntryRead}
+use Rattle.block_reader.specs.Steps.{Taken, Untaken}
 use Rattle.table_write.specs.Writes.{EndWritten, meta_block, whole}
 use Rattle.builder.specs.declared.table_builder.Options as Given
-use Rattle.std.specs.Prelude.{Option, None, Some, Err}
+use Rattle.std.specs.Prelude.{Option, None, Some, Ok, Err}
 use Rattle.table_block.specs.declared.refusal.Refusal as Why
 use Rattle.builder.specs.declared.table_builder.Builder.{Builder}
 use Rattle.builder.specs.State.{options_of, counts_in, Stands}
@@ -50,6 +53,12 @@ shown_fixed_lem A R M show so f x y g h =
 
 pub wrote_fixed_lem : OneAnswer.wrote_fixed
 wrote_fixed_lem d at bs x y h k = λ i. (both h.said k.said i, both h.left k.left i)
+
+pub place_fixed_lem : OneAnswer.place_fixed
+place_fixed_lem len at n (Ok x) (Ok y) h k = ap Ok (both h.1 k.1)
+place_fixed_lem len at n (Ok x) (Err e) h k = absurd (omega (arith, h.0, k))
+place_fixed_lem len at n (Err e) (Ok y) h k = absurd (omega (arith, h, k.0))
+place_fixed_lem len at n (Err e) (Err f) h k = refl
 
 pub counted_fixed_lem : OneAnswer.counted_fixed
 counted_fixed_lem b key value x y h k = λ i. (both h.fits k.fits i, both h.block k.block i)
@@ -84,14 +93,31 @@ entered_fixed_lem b at waiting key word value out restarts hashes x y h k =
 
 -- where it can be written, it is the whole table
 end_written : (e : OneAnswer.End) (q : OneAnswer.Ready e) (x : List ℕ)
-    → EndWritten e.interval e.filtering e.at e.indexed e.filters e.offsets e.index e.restarts e.out x
-    → (let fb = filter_block_of e.filters e.offsets in
+    → EndWritten e.interval e.filtering e.at e.bytes e.made e.indexed e.filters e.offsets e.index e.restarts e.out x
+    → (let fb = filter_block_of (take e.bytes e.filters) (take e.made e.offsets) in
     x ≡ overlay (whole q.blocks fb (meta_block e.interval e.filtering (record { offset = e.at; size = length fb })) (block_bytes q.every q.entries)) q.before)
 end_written e q x h = (h.done q.fits).wrote q.least q.most q.every q.entries q.stands q.blocks q.before q.laid q.ends q.room
 
 pub end_fixed_lem : OneAnswer.end_fixed
 end_fixed_lem e (inl n) x y h k = both (h.kept n) (k.kept n)
 end_fixed_lem e (inr q) x y h k = both (end_written e q x h) (end_written e q y k)
+
+-- an entry of such a key is read
+taken_here : {d : List ℕ} {at : ℕ} {before : List ℕ} {e : EntryRead} {key : List ℕ} → Taken d at before e key → Untaken d at before → ⊥
+taken_here h untaken = untaken h.here h.reads (omega (arith, h.key_size, h.room))
+
+pub taken_fixed_lem : OneAnswer.taken_fixed
+taken_fixed_lem d at before (Some e, u) (Some f, v) h k =
+    let p : h.here ≡ k.here = some_inj.0 (sym h.reads ∙ k.reads) in
+    let shared = sym h.shared ∙ ap (λ (x : Entry). x.shared) p ∙ k.shared in
+    let size = sym h.key_size ∙ ap (λ (x : Entry). length x.key) p ∙ k.key_size in
+    let place = sym h.value_at ∙ ap (λ (x : Entry). x.value_at) p ∙ k.value_at in
+    let value = sym h.value_size ∙ ap (λ (x : Entry). length x.value) p ∙ k.value_size in
+    let key = h.key ∙ ap (λ (x : Entry). x.key) p ∙ sym k.key in
+    λ i. (Some (record { shared = shared i; key_len = size i; value_at = place i; value_len = value i }), key i)
+taken_fixed_lem d at before (Some e, u) (None, v) h k = absurd (taken_here h k.0)
+taken_fixed_lem d at before (None, u) (Some f, v) h k = absurd (taken_here k h.0)
+taken_fixed_lem d at before (None, u) (None, v) h k = λ i. (None, both h.1 k.1 i)
 
 pub said_fixed_lem : OneAnswer.said_fixed
 said_fixed_lem s says ordered k es is rise x y g h = λ i. (both (g.answer es is rise) (h.answer es is rise) i, both (g.buffer es is rise) (h.buffer es is rise) i)

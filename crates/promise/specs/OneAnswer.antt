@@ -1,6 +1,6 @@
 -- Two answers that meet one promise, with all that they leave in lent memory, are the same. Of a contract that says what an answer is equal to this is
 -- `equal_fixed`; here stand all others, each on the inputs on which it fixes the answer.
-use Rattle.std.specs.Prelude.{ℕ, ◌≤◌, ◌<◌, ◌≡◌, List, Bool, true, false, ◌⊎◌, length, take, Result}
+use Rattle.std.specs.Prelude.{ℕ, ◌+◌, ◌≤◌, ◌<◌, ◌≡◌, List, Bool, true, false, ◌⊎◌, length, take, Result, MatchResult}
 use Rattle.std.specs.Prelude as Code
 use Rattle.std.proofs.Math.Option.{Option, some}
 use Rattle.codec.specs.Put.{Wrote}
@@ -22,7 +22,9 @@ use Rattle.block_builder.specs.declared.block_builder.BlockBuilder.{BlockBuilder
 use Rattle.block_builder.specs.Builder as Blocks
 use Rattle.block_reader.specs.declared.block.BlockError.{BlockError}
 use Rattle.block_reader.specs.declared.block.Entry as Row
+use Rattle.block_reader.specs.declared.block.EntryRead.{EntryRead}
 use Rattle.block_reader.specs.Said.{Said}
+use Rattle.block_reader.specs.Steps.{TakenAt}
 use Rattle.filter_block.specs.declared.filter_block.Made.{Made}
 use Rattle.filter_block.specs.Make.{MadeFilters}
 use Rattle.table_block.specs.Answers.{BloomRead}
@@ -53,6 +55,10 @@ shown_fixed = (A R M : Type 0) (show : A → R) (so : A → M → Type 0) → Fi
 -- bytes written at a place of a run
 abbrev pub wrote_fixed : Type 0
 wrote_fixed = (d : List ℕ) (at : ℕ) (bs : List ℕ) → Fixed (Result ℕ NoRoom × List ℕ) (λ x. Wrote d at bs x.0 x.1)
+
+-- the place after bytes that a run has room for
+abbrev pub place_fixed : Type 0
+place_fixed = (len at n : ℕ) → Fixed (Result ℕ NoRoom) (λ r. MatchResult r (λ end. (at + n ≤ len) × (end ≡ at + n)) (λ e. len < at + n))
 
 -- an entry counted
 abbrev pub counted_fixed : Type 0
@@ -94,6 +100,8 @@ pub record End : Type 0 where
   pub interval : ℕ
   pub filtering : Filtering
   pub at : ℕ
+  pub bytes : ℕ
+  pub made : ℕ
   pub indexed : BlockBuilder
   pub filters : List ℕ
   pub offsets : List ℕ
@@ -103,7 +111,7 @@ pub record End : Type 0 where
 
 -- its numbers are of 64 bits, and what it is written from stands within the runs
 abbrev pub Fits : End → Type 0
-Fits e = EndFits e.at (length e.filters) (length e.offsets) e.indexed (length e.index)
+Fits e = EndFits e.at e.bytes e.made e.indexed (length e.filters) (length e.offsets) (length e.index)
 
 -- an index block stands in its runs, and there is room behind the data blocks
 pub record Ready (e : End) : Type 0 where
@@ -117,13 +125,19 @@ pub record Ready (e : End) : Type 0 where
   pub before : List ℕ
   pub laid : e.out ≡ overlay blocks before
   pub ends : length blocks ≡ e.at
-  pub room : (let fb = filter_block_of e.filters e.offsets in
+  pub room : (let fb = filter_block_of (take e.bytes e.filters) (take e.made e.offsets) in
       length (whole blocks fb (meta_block e.interval e.filtering (record { offset = e.at; size = length fb })) (block_bytes every entries)) ≤ length before)
 
 -- the end written
 abbrev pub end_fixed : Type 0
 end_fixed = (e : End) → (Fits e → ⊥) ⊎ Ready e
-    → Fixed (List ℕ) (λ x. EndWritten e.interval e.filtering e.at e.indexed e.filters e.offsets e.index e.restarts e.out x)
+    → Fixed (List ℕ) (λ x. EndWritten e.interval e.filtering e.at e.bytes e.made e.indexed e.filters e.offsets e.index e.restarts e.out x)
+
+-- ---- entries
+
+-- an entry read behind a key, and the key then
+abbrev pub taken_fixed : Type 0
+taken_fixed = (d : List ℕ) (at : ℕ) (before : List ℕ) → Fixed (Code.Option EntryRead × List ℕ) (λ x. TakenAt d at before x.0 x.1)
 
 -- ---- one block, where it can be read
 

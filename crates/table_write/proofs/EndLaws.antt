@@ -41,7 +41,7 @@ behind {out} {out'} {at} {bs} w r g p e h =
     g.framed (omega arith) ∙ overlay_put w (framed bs) out r at e p h
 
 module _ (n : ℕ) (c : Filtering) (at : ℕ) (indexed : BlockBuilder) (filters offsets index rs out : List ℕ) {o₁ o₂ o₃ o₄ : List ℕ} (block meta size : ℕ)
-    (fits : EndFits at (length filters) (length offsets) indexed (length index))
+    (fits : EndFits at (length filters) (length offsets) indexed (length filters) (length offsets) (length index))
     (eb : block ≡ length filters + 4 * length offsets + 5)
     (g₁ : block ≡ length (filter_block_of filters offsets) → Framed out at (filter_block_of filters offsets) o₁)
     (em : meta ≡ meta_size c at block)

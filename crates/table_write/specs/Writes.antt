@@ -68,12 +68,14 @@ pub record Framed (out : List ℕ) (at : ℕ) (bs out' : List ℕ) : Type 0 wher
 pub record IndexPut (b : BlockBuilder) (index restarts : List ℕ) (at : ℕ) (out out' : List ℕ) : Type 0 where
   pub wrote : (i : ℕ) (ps : List Pair) → Blocks.Stands i ps b 0 index restarts → Framed out at (block_bytes i ps) out'
 
--- the end of a table has numbers of 64 bits, and the index block's entries stand within a run of such a length
-pub record EndFits (at bytes made : ℕ) (indexed : BlockBuilder) (index : ℕ) : Type 0 where
+-- the end of a table has numbers of 64 bits, and what it is written from stands within runs of such lengths
+pub record EndFits (at bytes made : ℕ) (indexed : BlockBuilder) (filters offsets index : ℕ) : Type 0 where
   pub written : at ≤ 2 ^ 40
   pub filter_bytes : bytes ≤ 2 ^ 40
   pub filter_count : made ≤ 2 ^ 40
   pub index_size : count_size (count_in indexed) ≤ 2 ^ 40
+  pub in_filters : bytes ≤ filters
+  pub in_offsets : made ≤ offsets
   pub in_index : indexed.bytes ≤ index
 
 -- the metaindex block at the end, by the handle of a filter block
@@ -95,7 +97,8 @@ pub record EndPut (interval : ℕ) (c : Filtering) (at : ℕ) (indexed : BlockBu
       let all = whole w fb (meta_block interval c (record { offset = at; size = length fb })) (block_bytes i ps) in
       length all ≤ length r → out' ≡ overlay all r)
 
--- the end written, or nothing
-pub record EndWritten (interval : ℕ) (c : Filtering) (at : ℕ) (indexed : BlockBuilder) (filters offsets index restarts out out' : List ℕ) : Type 0 where
-  pub done : EndFits at (length filters) (length offsets) indexed (length index) → EndPut interval c at indexed filters offsets index restarts out out'
-  pub kept : (EndFits at (length filters) (length offsets) indexed (length index) → ⊥) → out' ≡ out
+-- the end written, of the first bytes of filters and the first made offsets, or nothing
+pub record EndWritten (interval : ℕ) (c : Filtering) (at bytes made : ℕ) (indexed : BlockBuilder) (filters offsets index restarts out out' : List ℕ) : Type 0 where
+  pub done : EndFits at bytes made indexed (length filters) (length offsets) (length index)
+      → EndPut interval c at indexed (take bytes filters) (take made offsets) index restarts out out'
+  pub kept : (EndFits at bytes made indexed (length filters) (length offsets) (length index) → ⊥) → out' ≡ out

@@ -16,6 +16,7 @@ use block_builder::block_builder::BlockBuilder;
 use bloom::filter::bloom_hash;
 use checksum::trailer::put_trailer;
 use codec::blockhandle::{BlockHandle, encode_to};
+use codec::limits::least;
 use codec::put::put_bytes;
 use codec::varint::varint_len;
 use filter_block::filter_block::make_filters;
@@ -192,7 +193,7 @@ fn put_end(
     index: &[u8],
     restarts: &[u32],
 )
-    requires { EndFits at (length filters.now) (length offsets.now) indexed.now (length index.now) }
+    requires { EndFits at (length filters.now) (length offsets.now) indexed.now (length filters.now) (length offsets.now) (length index.now) }
     ensures { EndPut interval (choice_of filter) at indexed.now filters.now offsets.now index.now restarts.now out.old out.new }
 {
     let size = filters.len() + 4 * offsets.len() + 5;
@@ -212,42 +213,62 @@ fn put_end(
     put_footer(out, end, metaindex, index_block);
 }
 
-// Whether the numbers of a table's end are far below 64 bits, and the index block's entries stand within its run.
+// Whether the numbers of a table's end are far below 64 bits, and what it is written from stands within runs of such lengths.
 fn end_fits(
     at: usize,
-    filters: &[u8],
-    offsets: &[u32],
+    bytes: usize,
+    made: usize,
     indexed: &BlockBuilder,
-    index: &[u8],
+    filters: usize,
+    offsets: usize,
+    index: usize,
 ) -> bool
-    ensures { IsTrue result ↔ EndFits at (length filters.now) (length offsets.now) indexed.now (length index.now) }
+    ensures { IsTrue result ↔ EndFits at bytes made indexed.now filters offsets index }
 {
     let limit = 0x0100_0000_0000;
     at <= limit
-        && filters.len() <= limit
-        && offsets.len() <= limit
+        && bytes <= least(limit, filters)
+        && made <= least(limit, offsets)
         && indexed.size_estimate() <= limit
-        && indexed.bytes <= index.len()
+        && indexed.bytes <= index
 }
 
-// Writes filter block, metaindex, index and footer at a place of out, the end of the data blocks: of the filters and where each
-// starts, and the index block that stands in index and restarts. Nothing, where that block does not lie within its run.
+// Writes filter block, metaindex, index and footer at a place of out, the end of the data blocks: of the first bytes of filters, the
+// first made offsets, and the index block that stands in index and restarts. Nothing, where these do not lie within their runs.
 pub fn write_end(
     out: &mut [u8],
     at: usize,
     interval: usize,
     filter: Option<u32>,
     filters: &[u8],
+    bytes: usize,
     offsets: &[u32],
+    made: usize,
     indexed: &BlockBuilder,
     index: &[u8],
     restarts: &[u32],
 )
-    ensures { EndWritten interval (choice_of filter) at indexed.now filters.now offsets.now index.now restarts.now out.old out.new }
+    ensures { EndWritten interval (choice_of filter) at bytes made indexed.now filters.now offsets.now index.now restarts.now out.old out.new }
 {
-    if end_fits(at, filters, offsets, indexed, index) {
+    if end_fits(
+        at,
+        bytes,
+        made,
+        indexed,
+        filters.len(),
+        offsets.len(),
+        index.len(),
+    ) {
         put_end(
-            out, at, interval, filter, filters, offsets, indexed, index, restarts,
+            out,
+            at,
+            interval,
+            filter,
+            &filters[..bytes],
+            &offsets[..made],
+            indexed,
+            index,
+            restarts,
         );
     }
 }

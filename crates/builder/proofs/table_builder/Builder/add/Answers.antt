@@ -1,5 +1,5 @@
 -- `builder::table_builder::Builder::add` meets its contract.
-use mathlib.Core.Path.{◌≡◌, sym, ◌∙◌}
+use mathlib.Core.Path.{◌≡◌, refl, sym, ◌∙◌}
 use native.Mathlib.Omega.{arith}
 use lib.ListN.{length-take}
 use lib.Seq.{length-take-le}
@@ -44,7 +44,7 @@ slice_bounds-decide-end c = let p = c.put_key-n in sym (length-take-le p.result 
 
 pub decide-requires : goal.decide-requires
 decide-requires c = let at = (goal.at.decide-requires c).Start in
-    rw c.lengths-lengths.ensures (add_is_ready c.args.self.now (lent c.args.runs) (given at) (add_ready c.args.self.now (lent c.args.runs) (given at) c.addition_fits.ensures (early_is (goal.at.decide-requires c).In_ok-early)) (simp length-take (omega (arith, c.put_key-n.ensures.0))))
+    (rw c.lengths-lengths.ensures (add_is_ready c.args.self.now (lent c.args.runs) (given at) (add_ready c.args.self.now (lent c.args.runs) (given at) c.addition_fits.ensures (early_is (goal.at.decide-requires c).In_ok-early)) (simp length-take (omega (arith, c.put_key-n.ensures.0)))), refl)
 
 pub returns-in_err-p : goal.returns-in_err-p
 unfolding key_of
@@ -56,12 +56,12 @@ returns-in_err-p c = let at = (goal.at.returns-in_err-p c).Start in
 pub slice_bounds-key-end-2 : goal.slice_bounds-key-end-2
 slice_bounds-key-end-2 c = omega (arith, c.put_key-n.ensures.0, c.put_key-n.ensures.1.0)
 
-pub slice_bounds-write_entry-end : goal.slice_bounds-write_entry-end
-slice_bounds-write_entry-end c = let p = c.put_key-n in sym (length-take-le p.result _ (omega (arith, p.ensures.0, p.ensures.1.0)))
+pub slice_bounds-write_after-end : goal.slice_bounds-write_after-end
+slice_bounds-write_after-end c = let p = c.put_key-n in sym (length-take-le p.result _ (omega (arith, p.ensures.0, p.ensures.1.0)))
 
 pub returns : goal.returns
 unfolding key_of
 returns c = let at = (goal.at.returns c).Start in
     let d = rw (c.put_key-n.ensures.1.1, c.lengths-lengths.ensures) at c.in_ok-p.ensures in
     add_put c.args.self.now (lent c.args.runs) (given at) c.addition_fits.ensures (early_is (goal.at.returns c).In_ok-early)
-    (put_done c.args.self.now (lengths_of (lent c.args.runs)) _ c.args.word.now c.args.value.now (lent c.args.runs) d c.close_out.ensures (rw c.front.ensures at c.close_index.ensures) (rw c.front-2.ensures at c.more_filters.ensures) (rw c.put_key-n.ensures.1.1 at c.write_entry.ensures))
+    (put_done c.args.self.now (lengths_of (lent c.args.runs)) _ c.args.word.now c.args.value.now (lent c.args.runs) d c.close_out.ensures (rw c.front.ensures at c.close_index.ensures) (rw c.front-2.ensures at c.more_filters.ensures) (rw c.put_key-n.ensures.1.1 at c.write_after.ensures))

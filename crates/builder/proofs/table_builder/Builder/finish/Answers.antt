@@ -27,7 +27,7 @@ returns-in_err-early c = let q = err_from_is_err_and c.from_residual.result c.fr
     rw (q.1, q.2) (finish_refused c.args.self.now (lent c.args.runs) (early_said c.args.self.now (lent c.args.runs) c.lengths-lengths.ensures c.early.ensures ∙ c.in_err-early.was))
 
 pub decide_end-requires : goal.decide_end-requires
-decide_end-requires c = rw c.lengths-lengths.ensures (finish_is_sane c.args.self.now (lent c.args.runs) (early_is (goal.at.decide_end-requires c).In_ok-early))
+decide_end-requires c = (rw c.lengths-lengths.ensures (finish_is_sane c.args.self.now (lent c.args.runs) (early_is (goal.at.decide_end-requires c).In_ok-early)), refl)
 
 pub returns-in_err-p : goal.returns-in_err-p
 returns-in_err-p c = let q = err_from_is_err_and c.from_residual-in_err-p.result c.from_residual-in_err-p.ensures.1 in
@@ -35,4 +35,4 @@ returns-in_err-p c = let q = err_from_is_err_and c.from_residual-in_err-p.result
 
 pub returns : goal.returns
 unfolding over_state
-returns c = finish_done c.args.self.now (lent c.args.runs) (early_is (goal.at.returns c).In_ok-early) (rw c.lengths-lengths.ensures at c.in_ok-p.ensures) refl c.close_out.ensures (rw c.front.ensures at c.close_index.ensures) (rw c.front-2.ensures at c.more_filters.ensures) (rw c.front-3.ensures at c.more_filters-2.ensures) (rw (c.front-4.ensures, c.front-5.ensures) at c.write_end.ensures) (c.more_filters-2.auto.filters ∙ c.more_filters.auto.filters, (c.more_filters-2.auto.offsets ∙ c.more_filters.auto.offsets, c.close_index.auto.index)) refl
+returns c = finish_done c.args.self.now (lent c.args.runs) (early_is (goal.at.returns c).In_ok-early) (rw c.lengths-lengths.ensures at c.in_ok-p.ensures) refl c.close_out.ensures (rw c.front.ensures at c.close_index.ensures) (rw c.front-2.ensures at c.more_filters.ensures) (rw c.front-3.ensures at c.more_filters-2.ensures) c.write_end.ensures (c.more_filters-2.auto.filters ∙ c.more_filters.auto.filters, (c.more_filters-2.auto.offsets ∙ c.more_filters.auto.offsets, c.close_index.auto.index)) refl

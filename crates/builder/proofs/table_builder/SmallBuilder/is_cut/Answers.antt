@@ -8,4 +8,4 @@ use Rattle.builder.proofs.table_builder.SmallBuilder.is_cut.Goals as goal
 
 pub returns : goal.returns
 unfolding cut_of
-returns c = ap (λ (n : ℕ). ltb c.args.self.now.state.options.block_size n) (size_exact c.args.self.now.state c.args.self.now.small c.size_estimate.ensures)
+returns c = ap (λ (n : ℕ). ltb c.args.self.now.state.now.options.block_size n) (size_exact c.args.self.now.state.now c.args.self.now.small c.size_estimate.ensures)

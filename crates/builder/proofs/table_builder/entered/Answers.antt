@@ -1,6 +1,0 @@
--- `builder::table_builder::entered` meets its contract.
-use Rattle.builder.proofs.SizeLaws.{entered_is}
-use Rattle.builder.proofs.table_builder.entered.Goals as goal
-
-pub returns : goal.returns
-returns c = entered_is c.args.s c.args.key.now c.args.value_len c.requires c.count.ensures
