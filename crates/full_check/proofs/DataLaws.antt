@@ -1,11 +1,13 @@
 -- One data block and all of them, by the outcome of each test.
-use Prim.Native.Nat.{ℕ}
+use Prim.Native.Nat.{ℕ, ◌<◌}
 use mathlib.Core.Path.{◌≡◌, refl, sym, ap, ◌∙◌}
 use mathlib.Core.Bool.{true, false}
 use mathlib.Core.List.{List, [], ◌∷◌}
 use mathlib.Core.Option.{Option, none, some}
+use native.Mathlib.Omega.{arith}
 use Rattle.std.specs.Prelude.{Ok, Err, None, Some}
 use Rattle.codec.specs.Varint.{Handle}
+use Rattle.codec.proofs.Prelude.{split}
 use Rattle.block_reader.specs.declared.block.Kind.TheVariants as KindCase
 use Rattle.blocks.specs.Block.{Pair, Entry, last_key_of, pairs_of}
 use Rattle.blocks.specs.Formed.{all, well_formed, is_formed}
@@ -16,6 +18,7 @@ use Rattle.table_block.specs.declared.refusal.Refusal.{Refusal}
 use Rattle.table_block.specs.Refusals.{number}
 use Rattle.table_block.proofs.RefusalLaws.{refusal_number}
 use Rattle.full_check.specs.Answers.{verdict_of}
+use Rattle.full_check.specs.declared.check.Edge as Declared
 use Rattle.full_check.specs.Steps.{edge_of, ordered, lets, stands, data_in, data_at, blocks_at}
 use Rattle.full_check.proofs.BlockLaws.{not_formed}
 
@@ -66,20 +69,25 @@ data_stands t filter before ix h = go (placed t h)
 abbrev pub BlocksLeft : List ℕ → List ℕ → Option Edge → List Entry → List Entry → Type 0
 BlocksLeft t filter before es rest = blocks_at t filter none (pairs_of es) ≡ blocks_at t filter before (pairs_of rest)
 
-pub blocks_start : (t filter : List ℕ) (es : List Entry) → BlocksLeft t filter (edge_of None) es es
+-- so at a place: at the first, after nothing; from then on, after what the block before left
+pub record LeftAt (t filter : List ℕ) (at : ℕ) (edge : Declared.Edge) (es rest : List Entry) : Type 0 where
+  pub first : at ≡ 0 → BlocksLeft t filter (edge_of None) es rest
+  pub then : 0 < at → BlocksLeft t filter (edge_of (Some edge)) es rest
+
+pub blocks_start : (t filter : List ℕ) (edge : Declared.Edge) (es : List Entry) → LeftAt t filter 0 edge es es
 unfolding edge_of
-blocks_start t filter es = refl
+blocks_start t filter edge es = record { first = λ e. refl; then = λ up. absurd (omega arith) }
 
-module _ (t filter : List ℕ) (before : Option Edge) (es : List Entry) where
-  pub blocks_end : BlocksLeft t filter before es [] → Ok tt ≡ verdict_of (blocks_at t filter none (pairs_of es))
+module _ (t filter : List ℕ) (es : List Entry) where
+  pub blocks_end : (at : ℕ) (edge : Declared.Edge) → LeftAt t filter at edge es [] → Ok tt ≡ verdict_of (blocks_at t filter none (pairs_of es))
   unfolding blocks_at
-  blocks_end e = passed e
+  blocks_end at edge left = split 0 at (λ up. passed (left.then up)) (λ start. passed (left.first (omega arith)))
 
-  module _ (e : Entry) (rest : List Entry) (left : BlocksLeft t filter before es (e ∷ rest)) {ix : List ℕ} {h : Handle} (k : ix ≡ e.key) (is : h ≡ handle_of e.value) where
+  module _ (before : Option Edge) (e : Entry) (rest : List Entry) (left : BlocksLeft t filter before es (e ∷ rest)) {ix : List ℕ} {h : Handle} (k : ix ≡ e.key) (is : h ≡ handle_of e.value) where
     pub blocks_stop : {r : Refusal} → data_at t filter before ix h ≡ refuse (number r) → Err r ≡ verdict_of (blocks_at t filter none (pairs_of es))
     unfolding blocks_at ◌>>=◌
     blocks_stop r = refused (left ∙ rw (← k, ← is, r))
 
-    pub blocks_more : {ps : List Pair} → data_at t filter before ix h ≡ pass ps → {i l : List ℕ} → i ≡ e.key → last_key_of [] ps ≡ l → BlocksLeft t filter (edge_of (Some (record { index_key = i; last_key = l }))) es rest
+    pub blocks_more : {ps : List Pair} → data_at t filter before ix h ≡ pass ps → (next : ℕ) (edge : Declared.Edge) → 0 < next → edge.index_key ≡ e.key → last_key_of [] ps ≡ edge.last_key → LeftAt t filter next edge es rest
     unfolding blocks_at ◌>>=◌ edge_of
-    blocks_more r a b = left ∙ rw (← k, ← is, r, a, k, b)
+    blocks_more r next edge up a b = record { first = λ z. absurd (omega arith); then = λ _. left ∙ rw (← k, ← is, r, a, k, b) }

@@ -26,7 +26,7 @@ use Rattle.filters.specs.FilterBlock.{may_match}
 use Rattle.table.specs.Table.{Edge, follows, first_follows, handle_of, less_of}
 use Rattle.block_reader.specs.declared.block.EntryRead.{EntryRead}
 use Rattle.full_check.specs.declared.check.Edge as Declared
-use Rattle.full_check.specs.Steps.{after, rises_from, edge_of, ordered, lets}
+use Rattle.full_check.specs.Steps.{after, rises_from, Tested, kept, edge_of, ordered, lets}
 
 -- ---- one key after another
 
@@ -46,6 +46,14 @@ module _ (kind : Kind) (at : ℕ) (a b : List ℕ) where
       go : (b : Bool) → (b || true) ≡ true
       go true = refl
       go false = refl
+
+-- ---- tests
+
+-- what a test comes to, with the last key, is the answer on it
+pub tested : (test : List Pair → Bool) (d : List ℕ) (r : Bool) {k : List ℕ}
+    → ((es : List Entry) → read_from d 0 [] ≡ some es → (test (pairs_of es) ≡ r) × (last_key_of [] (pairs_of es) ≡ k)) → Tested test d (kept r k)
+tested test d true h = h
+tested test d false h = λ es read. (h es read).0
 
 -- ---- keys that rise
 

@@ -36,6 +36,11 @@ abbrev pub Tested : (List Pair → Bool) → List ℕ → code.Option (List ℕ)
 Tested test d (Some k) = (es : List Entry) → read_from d 0 [] ≡ some es → (test (pairs_of es) ≡ true) × (last_key_of [] (pairs_of es) ≡ k)
 Tested test d None = (es : List Entry) → read_from d 0 [] ≡ some es → test (pairs_of es) ≡ false
 
+-- the key, where a test passes
+abbrev pub kept : Bool → List ℕ → code.Option (List ℕ)
+kept true k = Some k
+kept false k = None
+
 -- ---- a block in the table
 
 -- 8, 9, of the block at a handle

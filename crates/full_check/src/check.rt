@@ -13,7 +13,7 @@ ghost use Rattle.filters.specs.Filter.{hash};
 ghost use Rattle.filters.specs.FilterBlock.{may_match};
 ghost use Rattle.table.specs.Table.{follows, first_follows, bloom_handle, handle_of, full_check, less_of, contents, sealed, sorted_in, sorted_at};
 ghost use Rattle.full_check.specs.Answers.{verdict_of};
-ghost use Rattle.full_check.specs.Steps.{Tested, Judged, stands, edge_of, ordered, lets, data_in, data_at, blocks_at, with_filter};
+ghost use Rattle.full_check.specs.Steps.{Tested, kept, Judged, stands, edge_of, ordered, lets, data_in, data_at, blocks_at, with_filter};
 
 use block_reader::block::{Kind, LastKey, layout};
 use bloom::filter::bloom_hash;
@@ -80,22 +80,24 @@ fn comes_before(kind: Kind, a: &[u8], b: &[u8]) -> bool
     }
 }
 
-// The last key of the entries that fill d, if their keys rise; of no entries the key is empty.
-fn keys_rise(d: &[u8], kind: Kind) -> Option<LastKey>
-    ensures { Tested (rises (less_of (kind_of kind))) d.now result }
+// Whether the keys of the entries that fill d rise. If so, last becomes the last of them; of no entries it is empty.
+fn keys_rise(d: &[u8], kind: Kind, last: &mut LastKey) -> bool
+    ensures { Tested (rises (less_of (kind_of kind))) d.now (kept result last.new) }
 {
     let mut key = LastKey::new();
-    let mut before = LastKey::new();
+    last.copy_from(&key);
     let mut at: usize = 0;
     while at < d.len() {
-        before.copy_from(&key);
-        let read = key.read(d, at)?;
-        if at > 0 && !comes_before(kind, before.as_slice(), key.as_slice()) {
-            return None;
+        let Some(read) = key.read(d, at) else {
+            return false;
+        };
+        if at > 0 && !comes_before(kind, last.as_slice(), key.as_slice()) {
+            return false;
         }
+        last.copy_from(&key);
         at = read.value_at + read.value_len;
     }
-    Some(key)
+    true
 }
 
 // Whether the bytes of the metaindex or the index are well formed, with keys that rise.
@@ -105,9 +107,11 @@ fn sorted_in(s: &[u8], kind: Kind) -> Result<(), Refusal>
     if !block_reader::block::is_formed(s, kind) {
         return Err(Refusal::Malformed);
     }
-    match keys_rise(entries(s), kind) {
-        None => Err(Refusal::Unordered),
-        Some(_) => Ok(()),
+    let mut last = LastKey::new();
+    if keys_rise(entries(s), kind, &mut last) {
+        Ok(())
+    } else {
+        Err(Refusal::Unordered)
     }
 }
 
@@ -142,18 +146,17 @@ fn block_follows(d: &[u8], before: Option<&Edge>) -> bool
     key.read(d, 0).is_some() && key_follows(before, key.as_slice())
 }
 
-// The last key of the entries that fill d, if their keys rise, the first may follow the block before it, and none is above a bound.
-fn in_order(d: &[u8], before: Option<&Edge>, bound: &[u8]) -> Option<LastKey>
-    ensures { Tested (ordered (edge_of (option_copied before.entry)) bound.now) d.now result }
+// Whether the keys of the entries that fill d rise, the first may follow the block before it, and none is above a bound. If so, last becomes the last of them.
+fn in_order(d: &[u8], before: Option<&Edge>, bound: &[u8], last: &mut LastKey) -> bool
+    ensures { Tested (ordered (edge_of (option_copied before.entry)) bound.now) d.now (kept result last.new) }
 {
     if !block_follows(d, before) {
-        return None;
+        return false;
     }
-    let last = keys_rise(d, Kind::Data)?;
-    if key_below(bound, last.as_slice()) {
-        return None;
+    if !keys_rise(d, Kind::Data, last) {
+        return false;
     }
-    Some(last)
+    !key_below(bound, last.as_slice())
 }
 
 // Whether a filter block lets the data block at an offset hold a key.
@@ -182,39 +185,43 @@ fn all_held(d: &[u8], filter: &[u8], offset: usize) -> bool
     true
 }
 
-// The last key of the data block at an offset, if its bytes pass.
+// Whether the bytes of the data block at an offset pass. If so, last becomes its last key.
 fn data_in(
     s: &[u8],
     filter: &[u8],
     offset: usize,
     before: Option<&Edge>,
     bound: &[u8],
-) -> Result<LastKey, Refusal>
-    ensures { Judged (data_in filter.now offset (edge_of (option_copied before.entry)) bound.now s.now) (λ ps k. last_key_of [] ps ≡ k) result }
+    last: &mut LastKey,
+) -> Result<(), Refusal>
+    ensures { Judged (data_in filter.now offset (edge_of (option_copied before.entry)) bound.now s.now) (λ ps _. last_key_of [] ps ≡ last.new) result }
 {
     if !block_reader::block::is_formed(s, Kind::Data) {
         return Err(Refusal::Malformed);
     }
     let d = entries(s);
-    let last = in_order(d, before, bound).ok_or(Refusal::Unordered)?;
+    if !in_order(d, before, bound, last) {
+        return Err(Refusal::Unordered);
+    }
     if !all_held(d, filter, offset) {
         return Err(Refusal::Filter);
     }
-    Ok(last)
+    Ok(())
 }
 
-// The last key of the data block at a handle, if it passes.
+// Whether the data block at a handle passes. If so, last becomes its last key.
 fn data_at(
     table: &[u8],
     filter: &[u8],
     before: Option<&Edge>,
     bound: &[u8],
     handle: BlockHandle,
-) -> Result<LastKey, Refusal>
-    ensures { Judged (data_at table.now filter.now (edge_of (option_copied before.entry)) bound.now handle) (λ ps k. last_key_of [] ps ≡ k) result }
+    last: &mut LastKey,
+) -> Result<(), Refusal>
+    ensures { Judged (data_at table.now filter.now (edge_of (option_copied before.entry)) bound.now handle) (λ ps _. last_key_of [] ps ≡ last.new) result }
 {
     let s = placed(table, handle)?;
-    data_in(s, filter, handle.offset, before, bound)
+    data_in(s, filter, handle.offset, before, bound, last)
 }
 
 // The handle of an index value.
@@ -229,19 +236,20 @@ fn blocks_in(table: &[u8], filter: &[u8], d: &[u8]) -> Result<(), Refusal>
     ensures { (es : List Entry) → read_from d.now 0 [] ≡ some es → result ≡ verdict_of (blocks_at table.now filter.now none (pairs_of es)) }
 {
     let mut key = LastKey::new();
-    let mut before: Option<Edge> = None;
+    let mut last = LastKey::new();
+    let mut edge = Edge {
+        index_key: LastKey::new(),
+        last_key: LastKey::new(),
+    };
     let mut at: usize = 0;
     while at < d.len() {
         let read = key.read(d, at).ok_or(Refusal::Malformed)?;
         let next = read.value_at + read.value_len;
         let handle = handle_of(&d[read.value_at..next]);
-        let last_key = data_at(table, filter, before.as_ref(), key.as_slice(), handle)?;
-        let mut index_key = LastKey::new();
-        index_key.copy_from(&key);
-        before = Some(Edge {
-            index_key,
-            last_key,
-        });
+        let before = if at > 0 { Some(&edge) } else { None };
+        data_at(table, filter, before, key.as_slice(), handle, &mut last)?;
+        edge.index_key.copy_from(&key);
+        edge.last_key.copy_from(&last);
         at = next;
     }
     Ok(())

@@ -2,13 +2,12 @@
 -- left, come to all.
 use Prim.Native.Nat.{◌-◌}
 use lib.ListN.{length}
-use Rattle.full_check.specs.Steps.{edge_of}
-use Rattle.full_check.proofs.DataLaws.{BlocksLeft}
+use Rattle.full_check.proofs.DataLaws.{LeftAt}
 use Rattle.block_reader.proofs.WalkLaws.{Scanning}
 use Rattle.full_check.proofs.check.blocks_in.Given as goal
 
 abbrev pub invariant-loop-at : goal.invariant-loop-at
-invariant-loop-at l = Scanning l.d 0 (BlocksLeft l.table l.filter (edge_of l.before)) l.key l.at
+invariant-loop-at l = Scanning l.d 0 (LeftAt l.table l.filter l.at l.edge) l.key l.at
 
 abbrev pub decreases-loop-at : goal.decreases-loop-at
 decreases-loop-at l = length l.d - l.at

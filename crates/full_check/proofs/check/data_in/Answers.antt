@@ -1,6 +1,5 @@
 -- `full_check::check::data_in` meets its contract.
 use mathlib.Core.Path.{sym, ◌∙◌}
-use Rattle.block_reader.proofs.ExitLaws.{none_exit}
 use Rattle.block_reader.specs.declared.block.Kind.TheVariants as KindCase
 use Rattle.block_reader.specs.Said.{kind_of}
 use Rattle.blocks.specs.Block.{pairs_of}
@@ -15,23 +14,21 @@ found c = formed (kind_of KindCase.Data) c.args.s.now (sym c.is_formed.ensures �
 pub returns-then-not-is_formed : goal.returns-then-not-is_formed
 returns-then-not-is_formed c = data_malformed _ _ _ _ _ (sym c.is_formed.ensures ∙ c.if-not-is_formed.true)
 
-pub returns-in_err-last : goal.returns-in_err-last
-returns-in_err-last c =
-    let f = found (goal.at.returns-in_err-last c).After-in_order in
-    let a = c.in_err-last.ensures in
-    rw (none_exit c.in_order.result c.from_residual.ensures.1 a.value)
-    (data_unordered _ _ _ _ _ f.is ((rw a.ok_part at c.in_order.ensures) f.entries (c.entries-d.ensures f.entries f.reads)))
+pub returns-then-not-in_order : goal.returns-then-not-in_order
+returns-then-not-in_order c =
+    let f = found (goal.at.returns-then-not-in_order c).After-in_order in
+    data_unordered _ _ _ _ _ f.is ((rw c.if-not-in_order.true at c.in_order.ensures) f.entries (c.entries-d.ensures f.entries f.reads))
 
 pub returns-then-not-all_held : goal.returns-then-not-all_held
 returns-then-not-all_held c =
     let f = found (goal.at.returns-then-not-all_held c).After-in_order in
     let reads = c.entries-d.ensures f.entries f.reads in
-    let u = (rw c.in_ok-last.ensures.ok_part at c.in_order.ensures) f.entries reads in
+    let u = (rw c.if-not-in_order.false at c.in_order.ensures) f.entries reads in
     data_denied _ _ _ _ _ f.is u.0 (sym (c.all_held.ensures f.entries reads) ∙ c.if-not-all_held.true)
 
 pub returns : goal.returns
 returns c =
     let f = found (goal.at.returns c).After-in_order in
     let reads = c.entries-d.ensures f.entries f.reads in
-    let u = (rw c.in_ok-last.ensures.ok_part at c.in_order.ensures) f.entries reads in
+    let u = (rw c.if-not-in_order.false at c.in_order.ensures) f.entries reads in
     (pairs_of f.entries, data_passed _ _ _ _ _ f.is u.0 (sym (c.all_held.ensures f.entries reads) ∙ c.if-not-all_held.false), u.1)

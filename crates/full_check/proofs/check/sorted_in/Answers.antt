@@ -11,10 +11,10 @@ found c = formed (kind_of c.args.kind) c.args.s.now (sym c.is_formed.ensures ∙
 pub returns-then-not-is_formed : goal.returns-then-not-is_formed
 returns-then-not-is_formed c = sorted_malformed _ _ (sym c.is_formed.ensures ∙ c.if-not-is_formed.true)
 
-pub returns-in-None : goal.returns-in-None
-returns-in-None c = let f = found (goal.at.returns-in-None c).After-keys_rise in
-    sorted_falls (kind_of c.args.kind) c.args.s.now f.is (c.in-None.ensures f.entries (c.entries.ensures f.entries f.reads))
+pub returns-then-keys_rise : goal.returns-then-keys_rise
+returns-then-keys_rise c = let f = found (goal.at.returns-then-keys_rise c).After-keys_rise in
+    (f.entries, sorted_rises (kind_of c.args.kind) c.args.s.now f.is ((rw c.if-keys_rise.true at c.keys_rise.ensures) f.entries (c.entries.ensures f.entries f.reads)).0, f.reads)
 
-pub returns-in-Some : goal.returns-in-Some
-returns-in-Some c = let f = found (goal.at.returns-in-Some c).After-keys_rise in
-    (f.entries, sorted_rises (kind_of c.args.kind) c.args.s.now f.is (c.in-Some.ensures f.entries (c.entries.ensures f.entries f.reads)).0, f.reads)
+pub returns-else-keys_rise : goal.returns-else-keys_rise
+returns-else-keys_rise c = let f = found (goal.at.returns-else-keys_rise c).After-keys_rise in
+    sorted_falls (kind_of c.args.kind) c.args.s.now f.is ((rw c.if-keys_rise.false at c.keys_rise.ensures) f.entries (c.entries.ensures f.entries f.reads))
