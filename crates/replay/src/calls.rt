@@ -10,13 +10,14 @@ use std::io;
 use std::io::Write;
 use table_block::refusal::Refusal;
 
-// The runs, and how long those of bytes and those of numbers are in use; the lengths of the parts lent to calls; the builder's
-// state, and one kept to come back to.
+// The runs, and how long those of bytes and those of numbers are in use; their checksums after the last command that may change
+// them; the lengths of the parts lent to calls; the builder's state, and one kept to come back to.
 #[derive(Drop)]
 pub struct Rig {
     runs: Runs,
     bytes: usize,
     numbers: usize,
+    sums: [u32; 7],
     lent: Lengths,
     state: Builder,
     kept: Builder,
@@ -54,6 +55,7 @@ impl Rig {
             runs: Runs::new(alloc)?,
             bytes: 0,
             numbers: 0,
+            sums: [0; 7],
             lent: state::no_lengths(),
             state: state::none(),
             kept: state::none(),
@@ -64,14 +66,15 @@ impl Rig {
     pub fn clear(&mut self) {
         self.bytes = 0;
         self.numbers = 0;
+        self.sums = [0; 7];
         self.lent = state::no_lengths();
         self.state = state::none();
         self.kept = state::none();
     }
 
-    // The checksums of the runs as long as they are in use.
-    fn sums(&self) -> [u32; 7] {
-        self.runs.sums(self.bytes, self.numbers)
+    // Takes the checksums of the runs as long as they are in use.
+    fn sum(&mut self) {
+        self.sums = self.runs.sums(self.bytes, self.numbers);
     }
 
     // The lengths lent, as far as the runs are in use.
@@ -134,18 +137,19 @@ impl Rig {
 
     // A call. One that is refused leaves everything as it was, and so does any start of the runs.
     fn call(&mut self, to: &mut Out, op: u8, line: &mut Fields) -> io::Result<()> {
-        let runs = self.sums();
-        let state = state::sum(&self.state);
+        let runs = self.sums;
+        let state = self.state;
         let answer = match op {
             b'S' => self.start(line).map(|()| None),
             b'F' | b'f' => self.finish().map(Some),
             _ => self.add(line).map(|()| None),
         };
         self.tell(to, op, answer)?;
-        if (answer.is_err() || op == b'S') && runs != self.sums() {
+        self.sum();
+        if (answer.is_err() || op == b'S') && runs != self.sums {
             write!(to, " changed runs")?;
         }
-        if answer.is_err() && op != b'S' && state != state::sum(&self.state) {
+        if answer.is_err() && op != b'S' && state::sum(&state) != state::sum(&self.state) {
             write!(to, " changed state")?;
         }
         Ok(())
@@ -158,10 +162,15 @@ impl Rig {
                 self.bytes = line.number();
                 self.numbers = line.number();
                 self.runs.lay();
+                self.sum();
             }
-            b'X' => self.runs.exchange(line.number()),
+            b'X' => {
+                self.runs.exchange(line.number());
+                self.sum();
+            }
             b'R' => {
-                for sum in self.sums() {
+                self.sum();
+                for sum in self.sums {
                     write!(to, " {sum:08x}")?;
                 }
             }

@@ -75,9 +75,9 @@ impl fmt::Display for Key<'_> {
     }
 }
 
-// Whether a run is still full of ee.
+// Whether a run is still full of ee: looked at whole, which is quicker than to look for an end.
 pub fn untouched(run: &[u8]) -> bool {
-    run.iter().all(|b| *b == 0xee)
+    run.iter().fold(0, |apart, b| apart | (*b ^ 0xee)) == 0
 }
 
 // Tells of a run that is not as it was, full of ee.
