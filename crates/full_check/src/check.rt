@@ -146,7 +146,8 @@ fn block_follows(d: &[u8], before: Option<&Edge>) -> bool
     key.read(d, 0).is_some() && key_follows(before, key.as_slice())
 }
 
-// Whether the keys of the entries that fill d rise, the first may follow the block before it, and none is above a bound. If so, last becomes the last of them.
+// Whether the keys of the entries that fill d rise, the first may follow the block before it, and none is above a bound. If so,
+// last becomes the last of them.
 fn in_order(d: &[u8], before: Option<&Edge>, bound: &[u8], last: &mut LastKey) -> bool
     ensures { Tested (ordered (edge_of (option_copied before.entry)) bound.now) d.now (kept result last.new) }
 {
